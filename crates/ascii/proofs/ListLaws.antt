@@ -1,0 +1,36 @@
+-- What every layer needs of lists and finds nowhere else: a slice's tail, what stands past the end, the first byte.
+use mathlib.Core.Path.{_≡_, refl}
+use mathlib.Core.List.{List, [], _∷_}
+use Prim.Native.Nat.{ℕ, zero, suc, _-_, _≤_, _<_}
+use native.Mathlib.Nat.{le-of-eq}
+use native.Mathlib.Omega.{arith}
+use lib.ListN.{length, getD, take, drop, length-drop}
+use lib.Seq.{take-all}
+use Rattle.ascii.specs.Bytes.{first}
+
+-- the part of a list from n on, as a slice `&s[n..]` has it
+pub tail-is : (n : ℕ) (l : List ℕ) → take (length l - n) (drop n l) ≡ drop n l
+tail-is n l = take-all (length l - n) (drop n l) (le-of-eq (length-drop n l))
+
+-- past the end there is nothing
+pub getD-past : (l : List ℕ) (i : ℕ) → length l ≤ i → getD l i 0 ≡ 0
+getD-past [] i h = refl
+getD-past (x ∷ l) zero h = absurd (none (length l) h)
+  where
+    none : (n : ℕ) → suc n ≤ 0 → ⊥
+    none n h = omega arith
+getD-past (x ∷ l) (suc i) h = getD-past l i (less (length l) h)
+  where
+    less : (n : ℕ) → suc n ≤ suc i → n ≤ i
+    less n h = omega arith
+
+-- a list whose first byte is not 0 has one
+pub first-some : (l : List ℕ) (b : ℕ) → first l ≡ b → 0 < b → 1 ≤ length l
+first-some [] b e h = absurd (no b e h)
+  where
+    no : (b : ℕ) → 0 ≡ b → 0 < b → ⊥
+    no b e h = omega arith
+first-some (x ∷ l) b e h = some (length l)
+  where
+    some : (n : ℕ) → 1 ≤ suc n
+    some n = omega arith

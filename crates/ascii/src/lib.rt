@@ -1,0 +1,12 @@
+// Bytes read and written as ASCII: the lowest layer, on which every other stands.
+mod bytes;
+mod digits;
+mod letters;
+mod output;
+
+pub use bytes::byte_at;
+pub use digits::count_digits;
+pub use digits::number_from;
+pub use letters::eq_ignore_ascii_case;
+pub use output::Placed;
+pub use output::fits_at;

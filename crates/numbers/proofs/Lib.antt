@@ -1,0 +1,14 @@
+pub mod BitsLaws
+pub mod ClosestLaw
+pub mod Comparing
+pub mod DivisionLaw
+pub mod GrammarLaws
+pub mod NearestLaw
+pub mod PowerLaws
+pub mod PrintableLaws
+pub mod PrintedIsNearest
+pub mod PrintedReadsBack
+pub mod PrintingLaws
+pub mod ReadingLaws
+pub mod RoundingLaws
+pub mod ValueIsNearest

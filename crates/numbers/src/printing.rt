@@ -1,0 +1,117 @@
+// A double's text put at a place of a lent buffer: sign, whole number, point and places.
+use crate::powers::power_of_ten;
+use crate::rounding::is_negative;
+use crate::rounding::is_printable;
+use crate::rounding::units;
+use ascii::Placed;
+ghost use mathlib.Core.Path.{_≡_};
+ghost use mathlib.Core.List.{_∷_, _++_};
+ghost use Prim.Native.Nat.{_+_, _≤_};
+ghost use lib.ListN.{length};
+ghost use Rattle.ascii.specs.Output.{Stored, placedOf, bufferAfter};
+ghost use Rattle.numbers.specs.Printing.{lastDigits, digitCount, sign, fixedText};
+ghost use Rattle.numbers.specs.Writing.{printedOf, afterPrinting};
+
+// What became of a double's text.
+pub enum Printed {
+    // It isn't finite or is beyond 1,000,000 in magnitude: it has no text, and the buffer is as it was.
+    BeyondReach,
+    Put(Placed),
+}
+
+// How many decimal digits n has.
+fn digit_count(n: u64) -> usize
+    ensures { λ r. ⌜ r ≡ digitCount n ⌝ }
+{
+    let mut rest = n;
+    let mut count = 1;
+    while 10 <= rest {
+        rest = rest / 10;
+        count += 1;
+    }
+    count
+}
+
+// The last count digits of n, from the right, so that each costs a division by ten alone.
+fn put_digits(out: &mut [u8], at: usize, count: usize, n: u64) -> usize
+    requires { ⌜ at + count ≤ length (now out) ⌝ }
+    ensures { λ r. ⌜ Stored (now (out .entry)) at (lastDigits count n) (now (out .exit)) r ⌝ }
+{
+    let mut rest = n;
+    let mut left = count;
+    while 0 < left {
+        left -= 1;
+        out[at + left] = b'0' + (rest % 10) as u8;
+        rest = rest / 10;
+    }
+    at + count
+}
+
+fn sign_length(negative: bool) -> usize
+    ensures { λ r. ⌜ r ≡ length (sign negative) ⌝ }
+{
+    if negative { 1 } else { 0 }
+}
+
+fn put_sign(out: &mut [u8], at: usize, negative: bool) -> usize
+    requires { ⌜ at + length (sign negative) ≤ length (now out) ⌝ }
+    ensures { λ r. ⌜ Stored (now (out .entry)) at (sign negative) (now (out .exit)) r ⌝ }
+{
+    if negative {
+        out[at] = b'-';
+        return at + 1;
+    }
+    at
+}
+
+// A sign or none, a whole number of so many digits, a point and the places, where there is room for them.
+fn put_parts(
+    out: &mut [u8],
+    at: usize,
+    negative: bool,
+    count: usize,
+    whole: u64,
+    places: usize,
+    n: u64,
+) -> usize
+    requires { ⌜ at + (length (sign negative) + count + 1 + places) ≤ length (now out) ⌝ }
+    ensures { λ r. ⌜ Stored (now (out .entry)) at (sign negative ++ (lastDigits count whole ++ (46 ∷ lastDigits places n))) (now (out .exit)) r ⌝ }
+{
+    let digits = put_sign(out, at, negative);
+    let point = put_digits(out, digits, count, whole);
+    out[point] = b'.';
+    put_digits(out, point + 1, places, n)
+}
+
+// Puts n units of the last place, with a sign or not, where they fit.
+fn put_fixed(out: &mut [u8], at: usize, negative: bool, places: usize, n: u64) -> Placed
+    requires { ⌜ places ≤ 3 ⌝ }
+    ensures { λ r. ⌜ (r ≡ placedOf (now (out .entry)) at (fixedText places negative n)) × (now (out .exit) ≡ bufferAfter (now (out .entry)) at (fixedText places negative n)) ⌝ }
+{
+    let whole = n / power_of_ten(places);
+    let count = digit_count(whole);
+    let length = sign_length(negative) + count + 1 + places;
+    if !ascii::fits_at(out.len(), at, length) {
+        return Placed::NoRoom(length);
+    }
+    Placed::Next(put_parts(out, at, negative, count, whole, places, n))
+}
+
+fn write_fixed(out: &mut [u8], at: usize, x: f64, places: usize) -> Printed
+    requires { ⌜ places ≤ 3 ⌝ }
+    ensures { λ r. ⌜ (r ≡ printedOf places x (now (out .entry)) at) × (now (out .exit) ≡ afterPrinting places x (now (out .entry)) at) ⌝ }
+{
+    if !is_printable(x) {
+        return Printed::BeyondReach;
+    }
+    let negative = is_negative(x);
+    let n = units(x, places);
+    Printed::Put(put_fixed(out, at, negative, places, n))
+}
+
+// Puts a double's text with three places into the buffer from index at on.
+pub fn write_thousandths(out: &mut [u8], at: usize, x: f64) -> Printed
+    ensures { λ r. ⌜ (r ≡ printedOf 3 x (now (out .entry)) at) × (now (out .exit) ≡ afterPrinting 3 x (now (out .entry)) at) ⌝ }
+{
+    write_fixed(out, at, x, 3)
+}

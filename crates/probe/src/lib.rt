@@ -1,0 +1,2 @@
+// Each layer through C conventions, for the programs that run it beside the Rust.
+mod number;
