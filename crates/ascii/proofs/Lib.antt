@@ -2,3 +2,4 @@ pub mod DigitLaws
 pub mod LetterLaws
 pub mod ListLaws
 pub mod OutputLaws
+pub mod SignLaws

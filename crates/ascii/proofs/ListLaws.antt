@@ -1,7 +1,8 @@
 -- What every layer needs of lists and finds nowhere else: a slice's tail, what stands past the end, the first byte.
-use mathlib.Core.Path.{_≡_, refl}
+use mathlib.Core.Path.{_≡_, refl, sym, _∙_}
 use mathlib.Core.List.{List, [], _∷_}
-use Prim.Native.Nat.{ℕ, zero, suc, _-_, _≤_, _<_}
+use mathlib.Core.Bool.{Bool, true, false}
+use Prim.Native.Nat.{ℕ, zero, suc, _-_, _≤_}
 use native.Mathlib.Nat.{le-of-eq}
 use native.Mathlib.Omega.{arith}
 use lib.ListN.{length, getD, take, drop, length-drop}
@@ -24,13 +25,13 @@ getD-past (x ∷ l) (suc i) h = getD-past l i (less (length l) h)
     less : (n : ℕ) → suc n ≤ suc i → n ≤ i
     less n h = omega arith
 
--- a list whose first byte is not 0 has one
-pub first-some : (l : List ℕ) (b : ℕ) → first l ≡ b → 0 < b → 1 ≤ length l
-first-some [] b e h = absurd (no b e h)
+-- a text whose first byte passes a test that 0 does not pass has a first byte
+pub some-passes : (test : ℕ → Bool) (s : List ℕ) → test 0 ≡ false → test (first s) ≡ true → 1 ≤ length s
+some-passes test [] f t = absurd (differ (sym f ∙ t))
   where
-    no : (b : ℕ) → 0 ≡ b → 0 < b → ⊥
-    no b e h = omega arith
-first-some (x ∷ l) b e h = some (length l)
+    differ : false ≡ true → ⊥
+    differ e = let z : _≡_ {A = ℕ} 0 1 = cc in omega arith
+some-passes test (b ∷ s) f t = some (length s)
   where
     some : (n : ℕ) → 1 ≤ suc n
     some n = omega arith

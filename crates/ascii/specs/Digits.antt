@@ -2,7 +2,8 @@
 use Prim.Native.Nat.{ℕ, suc, _+_, _-_, _*_, _^_}
 use mathlib.Core.List.{List, [], _∷_}
 use mathlib.Core.Bool.{Bool, _&&_, cond}
-use lib.Dec.{leb, ltb}
+use lib.Dec.{leb, ltb, eqb}
+use lib.ListN.{length}
 use Rattle.ascii.specs.Bytes.{byte}
 
 abbrev pub isDigit : ℕ → Bool
@@ -16,6 +17,10 @@ digitOf b = cond (isDigit b) (b - byte "0") 0
 unfoldable pub digitRun : List ℕ → ℕ
 digitRun [] = 0
 digitRun (b ∷ s) = cond (isDigit b) (suc (digitRun s)) 0
+
+-- some digits, and nothing else
+unfoldable pub allDigits : List ℕ → Bool
+allDigits s = ltb 0 (length s) && eqb (digitRun s) (length s)
 
 -- the number that the digits s write after those that wrote n
 unfoldable pub numberFrom : ℕ → List ℕ → ℕ

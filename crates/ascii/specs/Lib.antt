@@ -2,3 +2,4 @@ pub mod Bytes
 pub mod Digits
 pub mod Letters
 pub mod Output
+pub mod Signs

@@ -1,6 +1,6 @@
 // Decimal digits: how many a text begins with, and the number that they write.
 ghost use mathlib.Core.Path.{_≡_};
-ghost use Rattle.ascii.specs.Digits.{isDigit, digitOf, digitRun, numberFrom, capped};
+ghost use Rattle.ascii.specs.Digits.{isDigit, digitOf, digitRun, allDigits, numberFrom, capped};
 
 // No number grows past this, whatever the digits: the next digit still fits in 64 bits.
 const CAP: u64 = 1_000_000_000_000_000_000;
@@ -41,6 +41,16 @@ pub fn count_digits(s: &[u8]) -> usize
         i += 1;
     }
     i
+}
+
+// Whether s is some digits, and nothing else.
+pub fn all_digits(s: &[u8]) -> bool
+    ensures { λ r. ⌜ r ≡ allDigits (now (s .entry)) ⌝ }
+{
+    if s.len() == 0 {
+        return false;
+    }
+    count_digits(s) == s.len()
 }
 
 // The number that the digits s write after those that wrote n, capped.

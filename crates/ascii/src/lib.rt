@@ -3,10 +3,13 @@ mod bytes;
 mod digits;
 mod letters;
 mod output;
+mod signs;
 
 pub use bytes::byte_at;
+pub use digits::all_digits;
 pub use digits::count_digits;
 pub use digits::number_from;
 pub use letters::eq_ignore_ascii_case;
 pub use output::Placed;
 pub use output::fits_at;
+pub use signs::after_sign;

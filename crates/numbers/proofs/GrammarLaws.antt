@@ -1,32 +1,17 @@
 -- Each case of the grammar, by what the tests on the way to it said.
-use mathlib.Core.Path.{_≡_, refl, sym, ap, _∙_}
-use mathlib.Core.List.{List, [], _∷_}
+use mathlib.Core.Path.{_≡_, refl, ap, _∙_}
+use mathlib.Core.List.{List, []}
 use mathlib.Core.Bool.{Bool, true, false, _||_, cond}
-use Prim.Native.Nat.{ℕ, suc, _+_, _-_, _≤_}
+use Prim.Native.Nat.{ℕ, _+_, _-_, _≤_}
 use native.Mathlib.Nat.{sub-zero}
-use native.Mathlib.Omega.{arith}
 use lib.Dec.{eqb}
 use lib.ListN.{length, take, drop}
 use borrow.Author.Tests.{eq-eqb, ne-eqb}
 use Rattle.ascii.specs.Bytes.{first}
-use Rattle.ascii.specs.Digits.{digitRun}
-use Rattle.ascii.proofs.ListLaws.{tail-is}
-use Rattle.numbers.specs.Grammar.{Spelling, outside, word, decimal, isSign, isExponentLetter, afterSign, allDigits, isWord, isExponent, digits, afterDigits, parts, afterWhole, unsigned}
-
--- a text whose first byte passes a test that 0 does not pass has a first byte
-pub some-passes : (test : ℕ → Bool) (s : List ℕ) → test 0 ≡ false → test (first s) ≡ true → 1 ≤ length s
-some-passes test [] f t = absurd (differ (sym f ∙ t))
-  where
-    differ : false ≡ true → ⊥
-    differ e = let z : _≡_ {A = ℕ} 0 1 = cc in omega arith
-some-passes test (b ∷ s) f t = some (length s)
-  where
-    some : (n : ℕ) → 1 ≤ suc n
-    some n = omega arith
-
-pub sign-some : (s : List ℕ) → isSign (first s) ≡ true → 1 ≤ length s
-unfolding isSign
-sign-some s e = some-passes (λ b. eqb b 45 || eqb b 43) s refl e
+use Rattle.ascii.specs.Digits.{digitRun, allDigits}
+use Rattle.ascii.specs.Signs.{afterSign}
+use Rattle.ascii.proofs.ListLaws.{tail-is, some-passes}
+use Rattle.numbers.specs.Grammar.{Spelling, outside, word, decimal, isExponentLetter, isWord, isExponent, digits, afterDigits, parts, afterWhole, unsigned}
 
 pub letter-some : (s : List ℕ) → isExponentLetter (first s) ≡ true → 1 ≤ length s
 unfolding isExponentLetter
@@ -34,15 +19,6 @@ letter-some s e = some-passes (λ b. eqb b 101 || eqb b 69) s refl e
 
 pub point-some : (s : List ℕ) → first s ≡ 46 → 1 ≤ length s
 point-some s e = some-passes (λ b. eqb b 46) s refl (eq-eqb (first s) 46 e)
-
--- ---- the sign
-pub after-sign : (s : List ℕ) → isSign (first s) ≡ true → afterSign s ≡ drop 1 s
-unfolding afterSign
-after-sign s e = simp e
-
-pub after-none : (s : List ℕ) → isSign (first s) ≡ false → afterSign s ≡ s
-unfolding afterSign
-after-none s e = simp e
 
 -- ---- the exponent
 pub exponent-no : (s : List ℕ) → isExponentLetter (first s) ≡ false → isExponent s ≡ false

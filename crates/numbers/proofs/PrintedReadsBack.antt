@@ -18,13 +18,15 @@ use Rattle.ascii.specs.Bytes.{first}
 use Rattle.ascii.specs.Digits.{isDigit, digitOf, digitRun, numberFrom}
 use Rattle.ascii.specs.Letters.{lowercase, eqIgnoreCase}
 use Rattle.numbers.specs.declared.reading.Number.the-variants.{Value}
-use Rattle.numbers.specs.Grammar.{decimal, isSign, afterSign, isWord, parts, afterWhole, unsigned, spellingOf}
+use Rattle.numbers.specs.Grammar.{decimal, isWord, parts, afterWhole, unsigned, spellingOf}
+use Rattle.ascii.specs.Signs.{isSign, afterSign}
 use Rattle.numbers.specs.Reading.{allTogether, readAs, numberOf}
 use Rattle.numbers.specs.Rounding.{printable, unitsOf, isNegative}
 use Rattle.numbers.specs.Printing.{lastDigits, countUpTo, digitCount, sign, fixedText, textOf}
 use Rattle.numbers.specs.Nearest.{NearestTo}
 use Rattle.numbers.proofs.Comparing.{nearest-lt}
-use Rattle.numbers.proofs.GrammarLaws.{after-none, parts-decimal, whole-point, unsigned-digits}
+use Rattle.ascii.proofs.SignLaws.{after-none}
+use Rattle.numbers.proofs.GrammarLaws.{parts-decimal, whole-point, unsigned-digits}
 use Rattle.numbers.proofs.NearestLaw.{round-is-nearest}
 use Rattle.numbers.proofs.PowerLaws.{ten-positive}
 use Rattle.numbers.proofs.PrintingLaws.{count-enough, count-few, count-some, digits-length}

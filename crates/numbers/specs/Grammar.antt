@@ -3,11 +3,12 @@
 use Prim.Native.Nat.{ℕ, _+_}
 use mathlib.Core.List.{List, []}
 use mathlib.Core.Bool.{Bool, _&&_, _||_, cond}
-use lib.Dec.{ltb, eqb}
+use lib.Dec.{eqb}
 use lib.ListN.{length, take, drop}
 use Rattle.ascii.specs.Bytes.{byte, bytes, first}
-use Rattle.ascii.specs.Digits.{digitRun}
+use Rattle.ascii.specs.Digits.{digitRun, allDigits}
 use Rattle.ascii.specs.Letters.{eqIgnoreCase}
+use Rattle.ascii.specs.Signs.{afterSign}
 
 -- what the grammar sees in a text
 pub data Spelling : Type 0 where
@@ -18,24 +19,14 @@ pub data Spelling : Type 0 where
 
 -- ---- the parts of a text
 
-unfoldable pub isSign : ℕ → Bool
-isSign b = eqb b (byte "-") || eqb b (byte "+")
-
 unfoldable pub isExponentLetter : ℕ → Bool
 isExponentLetter b = eqb b (byte "e") || eqb b (byte "E")
-
-unfoldable pub afterSign : List ℕ → List ℕ
-afterSign s = cond (isSign (first s)) (drop 1 s) s
 
 abbrev pub digits : List ℕ → List ℕ
 digits s = take (digitRun s) s
 
 abbrev pub afterDigits : List ℕ → List ℕ
 afterDigits s = drop (digitRun s) s
-
--- some digits, and nothing else
-unfoldable pub allDigits : List ℕ → Bool
-allDigits s = ltb 0 (length s) && eqb (digitRun s) (length s)
 
 -- ---- the grammar
 

@@ -4,7 +4,7 @@ ghost use mathlib.Core.Path.{_≡_};
 ghost use mathlib.Core.List.{[]};
 ghost use Prim.Native.Nat.{_≤_, _<_};
 ghost use lib.Ieee.{binary64, round};
-ghost use Rattle.numbers.specs.Grammar.{decimal, isSign, isExponentLetter, afterSign, allDigits, isWord, isExponent, parts, afterWhole, unsigned};
+ghost use Rattle.numbers.specs.Grammar.{decimal, isExponentLetter, isWord, isExponent, parts, afterWhole, unsigned};
 ghost use Rattle.numbers.specs.Reading.{readAs, numberOf};
 
 pub enum Number {
@@ -17,15 +17,6 @@ const MOST_DIGITS: usize = 15;
 
 const FARTHEST: u64 = 1_000_000;
 
-fn is_sign(b: u8) -> bool
-    ensures { λ r. ⌜ r ≡ isSign b ⌝ }
-{
-    match b {
-        b'-' | b'+' => true,
-        _ => false,
-    }
-}
-
 fn is_exponent_letter(b: u8) -> bool
     ensures { λ r. ⌜ r ≡ isExponentLetter b ⌝ }
 {
@@ -33,24 +24,6 @@ fn is_exponent_letter(b: u8) -> bool
         b'e' | b'E' => true,
         _ => false,
     }
-}
-
-fn after_sign(s: &[u8]) -> &[u8]
-    ensures { λ r. ⌜ now r ≡ afterSign (now (s .entry)) ⌝ }
-{
-    if is_sign(ascii::byte_at(s, 0)) {
-        return &s[1..];
-    }
-    s
-}
-
-fn all_digits(s: &[u8]) -> bool
-    ensures { λ r. ⌜ r ≡ allDigits (now (s .entry)) ⌝ }
-{
-    if s.len() == 0 {
-        return false;
-    }
-    ascii::count_digits(s) == s.len()
 }
 
 fn is_word(s: &[u8]) -> bool
@@ -71,7 +44,7 @@ fn is_exponent(s: &[u8]) -> bool
     if !is_exponent_letter(ascii::byte_at(s, 0)) {
         return false;
     }
-    all_digits(after_sign(&s[1..]))
+    ascii::all_digits(ascii::after_sign(&s[1..]))
 }
 
 // Both whole numbers are exact as doubles, so that one division is the nearest double to their fraction.
@@ -145,5 +118,5 @@ pub fn read_number(s: &[u8]) -> Number
     ensures { λ r. ⌜ r ≡ numberOf (now (s .entry)) ⌝ }
 {
     let negative = ascii::byte_at(s, 0) == b'-';
-    read_unsigned(negative, after_sign(s))
+    read_unsigned(negative, ascii::after_sign(s))
 }

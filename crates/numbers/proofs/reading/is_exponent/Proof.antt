@@ -6,7 +6,9 @@ use Prim.Native.Nat.{ℕ}
 use borrow.Author.Needs.{needs}
 use borrow.Author.Tests.{not-true, not-false}
 use Rattle.ascii.proofs.ListLaws.{tail-is}
-use Rattle.numbers.specs.Grammar.{isExponentLetter, afterSign, allDigits}
+use Rattle.ascii.specs.Digits.{allDigits}
+use Rattle.ascii.specs.Signs.{afterSign}
+use Rattle.numbers.specs.Grammar.{isExponentLetter}
 use Rattle.numbers.proofs.GrammarLaws.{letter-some, exponent-no, exponent-yes}
 use Rattle.numbers.proofs.reading.is_exponent.Statement.{statement}
 use Rattle.numbers.proofs.reading.is_exponent.Tie as tie

@@ -4,7 +4,8 @@ use mathlib.Core.List.{List}
 use Prim.Native.Nat.{ℕ}
 use lib.Dec.{eqb}
 use borrow.Author.Needs.{needs}
-use Rattle.numbers.specs.Grammar.{afterSign, unsigned, spellingOf}
+use Rattle.ascii.specs.Signs.{afterSign}
+use Rattle.numbers.specs.Grammar.{unsigned, spellingOf}
 use Rattle.numbers.specs.Reading.{readAs, numberOf}
 use Rattle.numbers.proofs.reading.read_number.Statement.{statement}
 use Rattle.numbers.proofs.reading.read_number.Tie as tie

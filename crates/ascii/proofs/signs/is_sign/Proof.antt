@@ -1,9 +1,9 @@
 -- Each arm of the match is one case of `isSign`.
 use mathlib.Core.Logic.{⊎-elim, inl, inr}
 use borrow.Author.Tests.{ne-eqb}
-use Rattle.numbers.specs.Grammar.{isSign}
-use Rattle.numbers.proofs.reading.is_sign.Statement.{statement}
-use Rattle.numbers.proofs.reading.is_sign.Tie as tie
+use Rattle.ascii.specs.Signs.{isSign}
+use Rattle.ascii.proofs.signs.is_sign.Statement.{statement}
+use Rattle.ascii.proofs.signs.is_sign.Tie as tie
 
 returns : tie.Need-returns
 unfolding isSign

@@ -3,11 +3,11 @@ use mathlib.Core.Path.{_≡_, sym, ap, _∙_}
 use mathlib.Core.Bool.{Bool}
 use Prim.Native.Nat.{ℕ}
 use borrow.Author.Needs.{needs}
 use Rattle.ascii.proofs.ListLaws.{tail-is}
-use Rattle.numbers.specs.Grammar.{isSign}
-use Rattle.numbers.proofs.GrammarLaws.{sign-some, after-sign, after-none}
-use Rattle.numbers.proofs.reading.after_sign.Statement.{statement}
-use Rattle.numbers.proofs.reading.after_sign.Tie as tie
+use Rattle.ascii.specs.Signs.{isSign}
+use Rattle.ascii.proofs.SignLaws.{sign-some, after-sign, after-none}
+use Rattle.ascii.proofs.signs.after_sign.Statement.{statement}
+use Rattle.ascii.proofs.signs.after_sign.Tie as tie
 
 -- what the call's answer says of the first byte
 sign : {b f : ℕ} {r t : Bool} → b ≡ f → r ≡ isSign b → r ≡ t → isSign f ≡ t

@@ -3,9 +3,9 @@ use native.Mathlib.Omega.{arith}
 use lib.ListN.{length}
 use borrow.Author.Needs.{needs}
 use borrow.Author.Tests.{lt-ltb, le-ltb}
-use Rattle.numbers.specs.Grammar.{allDigits}
-use Rattle.numbers.proofs.reading.all_digits.Statement.{statement}
-use Rattle.numbers.proofs.reading.all_digits.Tie as tie
+use Rattle.ascii.specs.Digits.{allDigits}
+use Rattle.ascii.proofs.digits.all_digits.Statement.{statement}
+use Rattle.ascii.proofs.digits.all_digits.Tie as tie
 
 returns : tie.Need-returns
 unfolding allDigits
