@@ -1,11 +1,11 @@
-//! Writes the module tree that compiles the published files where they stand. Two of them are
-//! compiled from copies with a few lines added at the end: a public way to private functions.
+//! Writes the module tree that compiles the published files where they stand. Three of them are
+//! compiled from copies with a few lines added at the end: a public way to what is private.
 use std::path::{Path, PathBuf};
 use std::{env, fs, process};
 
 const MODULES: &str = r#"
 pub mod io {
-    #[path = "{published}/io/context.rs"]
+    #[path = "{copies}/context.rs"]
     pub mod context;
     #[path = "{published}/io/error.rs"]
     pub mod error;
@@ -33,6 +33,14 @@ pub mod model {
 }
 "#;
 
+const ADDED_TO_CONTEXT: &str = r#"
+impl IoContext {
+    pub fn names(&self) -> Vec<String> {
+        self.alias_map.keys().cloned().collect()
+    }
+}
+"#;
+
 const ADDED_TO_READER: &str = r#"
 pub fn coordinate(text: &str) -> Result<f64, Error> {
     parse_coordinate(text, "X", 1)
@@ -40,6 +48,27 @@ pub fn coordinate(text: &str) -> Result<f64, Error> {
 
 pub fn tokens(line: &str) -> Vec<String> {
     tokenize_mmcif_line(line)
+}
+
+pub fn columns(headers: &[String]) -> [Option<usize>; 15] {
+    let indices = map_atom_site_indices(headers);
+    [
+        indices.group_pdb,
+        indices.auth_atom_id,
+        indices.label_atom_id,
+        indices.auth_comp_id,
+        indices.label_comp_id,
+        indices.auth_asym_id,
+        indices.label_asym_id,
+        indices.auth_seq_id,
+        indices.label_seq_id,
+        indices.pdbx_pdb_ins_code,
+        indices.cartn_x,
+        indices.cartn_y,
+        indices.cartn_z,
+        indices.occupancy,
+        indices.type_symbol,
+    ]
 }
 "#;
 
@@ -52,8 +81,17 @@ pub fn quoted(name: &str) -> String {
 fn main() {
     let published = published_folder();
     let copies = PathBuf::from(env::var_os("OUT_DIR").expect("cargo names the folder for output"));
-    copy_with(&published, "reader.rs", ADDED_TO_READER, &copies);
-    copy_with(&published, "writer.rs", ADDED_TO_WRITER, &copies);
+    copy_with(&published.join("io/context.rs"), ADDED_TO_CONTEXT, &copies);
+    copy_with(
+        &published.join("io/mmcif/reader.rs"),
+        ADDED_TO_READER,
+        &copies,
+    );
+    copy_with(
+        &published.join("io/mmcif/writer.rs"),
+        ADDED_TO_WRITER,
+        &copies,
+    );
     let modules = MODULES
         .replace("{published}", &published.display().to_string())
         .replace("{copies}", &copies.display().to_string());
@@ -75,11 +113,11 @@ fn published_folder() -> PathBuf {
     })
 }
 
-fn copy_with(published: &Path, file: &str, added: &str, copies: &Path) {
-    let original = published.join("io/mmcif").join(file);
+fn copy_with(original: &Path, added: &str, copies: &Path) {
     println!("cargo::rerun-if-changed={}", original.display());
-    let text = fs::read_to_string(&original)
+    let text = fs::read_to_string(original)
         .unwrap_or_else(|error| fail(&format!("{}: {error}.", original.display())));
+    let file = original.file_name().expect("a file has a name");
     write(&copies.join(file), &(text + added));
 }
 

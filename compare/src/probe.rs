@@ -12,6 +12,26 @@ unsafe extern "C" {
         x: f64,
         number: *mut usize,
     ) -> u32;
+    fn probe_token(
+        line: *const u8,
+        length: usize,
+        k: usize,
+        cell: *mut u8,
+        cell_length: usize,
+    ) -> usize;
+    fn probe_item(token: *const u8, length: usize) -> usize;
+    fn probe_sequence(token: *const u8, length: usize) -> u32;
+    fn probe_quote(
+        name: *const u8,
+        length: usize,
+        out: *mut u8,
+        out_length: usize,
+        at: usize,
+        number: *mut usize,
+    ) -> u32;
+    fn probe_resolve(name: *const u8, length: usize, canonical: *mut u64) -> u8;
+    fn probe_element(symbol: *const u8, length: usize) -> u8;
+    fn probe_symbol(element: u8) -> u64;
 }
 
 /// What a text is as a number.
@@ -45,7 +65,7 @@ impl fmt::Display for Number {
     }
 }
 
-/// What became of a number that was to be written.
+/// What became of a text that was to be written.
 #[derive(Debug, Clone, Copy, PartialEq, Eq)]
 pub enum Written {
     BeyondReach,
@@ -77,10 +97,69 @@ pub fn write_thousandths(out: &mut [u8], at: usize, x: f64) -> Written {
     // SAFETY: the function reads and writes `out` and `number` alone.
     let answer =
         unsafe { probe_write_thousandths(out.as_mut_ptr(), out.len(), at, x, &mut number) };
+    written(answer, number)
+}
+
+fn written(answer: u32, number: usize) -> Written {
     match (answer, number) {
         (0, 0) => Written::BeyondReach,
         (1, needed) => Written::NoRoom(needed),
         (2, next) => Written::Next(next),
         answer => panic!("writing has no answer {answer:?}"),
     }
+}
+
+/// Puts the line's token `k`, counted from 0, at the front of the cell as far as it fits. Its true
+/// length, 0 where there is none.
+pub fn token(line: &[u8], k: usize, cell: &mut [u8]) -> usize {
+    // SAFETY: the function reads the bytes of `line`, and writes those of `cell`.
+    unsafe { probe_token(line.as_ptr(), line.len(), k, cell.as_mut_ptr(), cell.len()) }
+}
+
+/// Which item the token names, 15 where it names none.
+pub fn item(token: &[u8]) -> usize {
+    // SAFETY: the function only reads, and only the bytes of `token`.
+    unsafe { probe_item(token.as_ptr(), token.len()) }
+}
+
+/// The sequence number, moved up by 2^31.
+pub fn sequence(token: &[u8]) -> u32 {
+    // SAFETY: the function only reads, and only the bytes of `token`.
+    unsafe { probe_sequence(token.as_ptr(), token.len()) }
+}
+
+/// Writes the quoted name into `out`, from the place `at` on.
+pub fn quote(name: &[u8], out: &mut [u8], at: usize) -> Written {
+    let mut number = usize::MAX;
+    let (from, to) = (name.as_ptr(), out.as_mut_ptr());
+    // SAFETY: the function reads the bytes of `name`, and writes `out` and `number` alone.
+    let answer = unsafe { probe_quote(from, name.len(), to, out.len(), at, &mut number) };
+    written(answer, number)
+}
+
+/// The canonical name and the standard residue's code; empty and 0 where the name has none.
+pub fn resolve(name: &[u8]) -> (String, u8) {
+    let mut canonical = u64::MAX;
+    // SAFETY: the function reads the bytes of `name`, and writes `canonical` alone.
+    let code = unsafe { probe_resolve(name.as_ptr(), name.len(), &mut canonical) };
+    (unpacked(canonical), code)
+}
+
+/// The element's number, 0 where the symbol is none.
+pub fn element(symbol: &[u8]) -> u8 {
+    // SAFETY: the function only reads, and only the bytes of `symbol`.
+    unsafe { probe_element(symbol.as_ptr(), symbol.len()) }
+}
+
+pub fn symbol(element: u8) -> String {
+    // SAFETY: the function gets a number and gives one.
+    unpacked(unsafe { probe_symbol(element) })
+}
+
+/// A packed name has its first byte highest, and zeros after its last.
+fn unpacked(name: u64) -> String {
+    let bytes = name.to_be_bytes();
+    String::from_utf8_lossy(&bytes)
+        .trim_end_matches('\0')
+        .to_string()
 }

@@ -22,6 +22,19 @@ impl Tally {
 
     /// Says how many were compared, or fails if some differed.
     pub fn finish(self, what: &str) {
+        println!("compared {} {what}, no difference", self.alike(what));
+    }
+
+    /// Says how many differed in the way that is described, or fails if some did not.
+    pub fn finish_described(self, what: &str) {
+        println!(
+            "compared {} {what}, different as described",
+            self.alike(what)
+        );
+    }
+
+    /// How many were compared, if all were as they should be.
+    fn alike(self, what: &str) -> usize {
         let shown = self.shown.join("\n");
         assert!(
             self.different == 0,
@@ -29,6 +42,6 @@ impl Tally {
             self.different,
             self.compared
         );
-        println!("compared {} {what}, no difference", self.compared);
+        self.compared
     }
 }

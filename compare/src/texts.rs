@@ -1,227 +1,78 @@
-//! Texts to read as numbers, in families: what the grammar, the reach and the nearest double could
-//! get wrong.
+//! Texts of bytes, and the ways to make many of them that more than one concept needs.
 use crate::random::Random;
 
 pub type Text = Vec<u8>;
 
-const SIGNS: [&str; 5] = ["", "+", "-", "--", "+-"];
-const LETTERS: &[u8] = b"0123456789.+-eE";
+/// The bytes that may stand on a line: tab, and blank to tilde.
+pub fn line_bytes() -> Vec<u8> {
+    [b'\t'].into_iter().chain(b' '..=b'~').collect()
+}
 
-/// The edges and every family, each text once.
-pub fn all() -> Vec<Text> {
-    let mut texts = [edges(), families().concat()].concat();
-    texts.sort();
+pub fn line_byte(random: &mut Random) -> u8 {
+    random.pick(&line_bytes())
+}
+
+/// Each text once, the shorter ones first: the first difference shown is the smallest.
+pub fn distinct(mut texts: Vec<Text>) -> Vec<Text> {
+    texts.sort_by(|one, two| (one.len(), one).cmp(&(two.len(), two)));
     texts.dedup();
     texts
 }
 
-pub fn families() -> [Vec<Text>; 11] {
-    [
-        short(),
-        words(),
-        forms(),
-        counted_digits(),
-        around_a_million(),
-        zeros(),
-        decimals(),
-        near_halfway(),
-        letters_of_the_grammar(),
-        any_bytes(),
-        damaged(),
-    ]
-}
-
-/// Texts that stand right at a limit, or right past it.
-pub fn edges() -> Vec<Text> {
-    let texts = "0 -0 +0 0.0 -0.0 5. .5 -.5 +5. . - + -. 0,5 1e3 1E+3 1e 1e+ e3 .e3 5.e3 .5e3 \
-        inf -inf +INF infinity nan NaN -nan infinit nano 1.5f 1_000 0x10 1..5 1.5.5 --1 +-1 \
-        999999.999999999 999999.9999999999 999999.9995 1000000 -1000000 +1000000. 1000000.0 \
-        1000000.00000000 1000000.000000000 1000000.00000001 -1000000.00000001 1000000.1 1000001 \
-        000000001000000 0000000001000000 000000001000001 12345.6789012345 12345.67890123456 \
-        123456.789012345 123456.7890123456 .123456789012345 .1234567890123456 \
-        0.00000000000001 0.000000000000001 000000000000000 0000000000000000 999999999999999 \
-        0.1 0.2 0.3 1.005 2.675 12.345 -12.345 0.000 -0.000 -0.0004";
-    texts.split_whitespace().map(Text::from).collect()
-}
-
-/// Every text of at most five bytes over the letters that decide the grammar.
-fn short() -> Vec<Text> {
+/// Every text of at most `longest` bytes over the letters, the shorter ones first.
+pub fn exhaustive(letters: &[u8], longest: usize) -> Vec<Text> {
     let mut texts = vec![Text::new()];
-    let mut longest = 0..1;
-    for _ in 0..5 {
+    let mut last = 0..1;
+    for _ in 0..longest {
         let end = texts.len();
-        for place in longest {
-            for &letter in b"01.-+e,naif" {
+        for place in last {
+            for &letter in letters {
                 texts.push([&texts[place][..], &[letter]].concat());
             }
         }
-        longest = end..texts.len();
+        last = end..texts.len();
     }
     texts
 }
 
-/// The words in every mixture of small and capital letters, cut short, and with a byte too many.
-fn words() -> Vec<Text> {
-    let mut texts = Vec::new();
-    for word in ["inf", "infinity", "nan"] {
-        for capitals in 0..1 << word.len() {
-            let mut spelled = Text::from(word);
-            for (place, letter) in spelled.iter_mut().enumerate() {
-                if capitals >> place & 1 == 1 {
-                    letter.make_ascii_uppercase();
-                }
-            }
-            texts.extend(SIGNS.map(|sign| [sign.as_bytes(), &spelled].concat()));
-        }
-        for place in 0..=word.len() {
-            let (before, after) = word.split_at(place);
-            texts.push(Text::from(before));
-            for extra in ["i", "f", "n", "t", "y", "0", "1", ".", "e", "+", "-", " "] {
-                texts.push([before, extra, after].concat().into_bytes());
+/// The word, given in small letters, in every mixture of small and capital ones.
+pub fn in_every_case(word: &str) -> Vec<Text> {
+    let mixtures = (0..1 << word.len()).map(|capitals: usize| {
+        let mut spelled = Text::from(word);
+        for (place, letter) in spelled.iter_mut().enumerate() {
+            if capitals >> place & 1 == 1 {
+                letter.make_ascii_uppercase();
             }
         }
-    }
-    texts
+        spelled
+    });
+    mixtures.collect()
 }
 
-/// Every sign with every body and every exponent, good and bad.
-fn forms() -> Vec<Text> {
-    let bodies = [
-        "", "0", "5", "05", "12", "5.", ".5", ".", "1.5", "00.00", "..", "1..2", "1.2.3", "1,5",
-        "1_0", "0x1", " 1", "1 ",
-    ];
-    let exponents = [
-        "", "e", "E", "e3", "E3", "e+3", "E-3", "e+", "e-", "e++3", "e3.", "e3.5", "e 3", "ee3",
-        "e400", "e-400", "e9999999", "f3", "d3",
-    ];
+/// Every text that is one byte away from the word: changed, put in or left out.
+pub fn one_byte_away(word: &[u8], bytes: &[u8]) -> Vec<Text> {
     let mut texts = Vec::new();
-    for sign in SIGNS {
-        for body in bodies {
-            texts.extend(exponents.map(|exponent| [sign, body, exponent].concat().into_bytes()));
+    for place in 0..=word.len() {
+        let (before, after) = word.split_at(place);
+        for &byte in bytes {
+            texts.push([before, &[byte], after].concat());
         }
-    }
-    texts
-}
-
-/// One digit to 17, some of them leading zeros, with the point at every place and with none.
-fn counted_digits() -> Vec<Text> {
-    let mut random = Random::new(1);
-    let mut texts = Vec::new();
-    for turn in 0..4_000 {
-        let fewest = if turn % 4 == 0 { 1 } else { 14 };
-        let count = fewest + random.below(18 - fewest);
-        let zeros = random.below(count + 1);
-        let mut digits = vec![b'0'; zeros as usize];
-        digits.extend((zeros..count).map(|_| digit(&mut random)));
-        let sign = random.pick(&SIGNS[..3]).as_bytes();
-        texts.push([sign, &digits].concat());
-        for place in 0..=digits.len() {
-            let (whole, fraction) = digits.split_at(place);
-            texts.push([sign, whole, b".", fraction].concat());
-        }
-    }
-    texts
-}
-
-fn digit(random: &mut Random) -> u8 {
-    random.pick(b"0123456789")
-}
-
-/// The whole numbers around 1,000,000 with fractions of zeros, of nines, and of zeros ending in 1.
-fn around_a_million() -> Vec<Text> {
-    let mut texts = Vec::new();
-    for whole in 999_998..=1_000_002 {
-        for places in 0..=10 {
-            let zeros = "0".repeat(places);
-            let nines = "9".repeat(places);
-            for fraction in [zeros.clone(), nines, zeros + "1"] {
-                for sign in &SIGNS[..3] {
-                    texts.push(format!("{sign}{whole}.{fraction}").into_bytes());
-                    texts.push(format!("{sign}0{whole}.{fraction}").into_bytes());
-                }
+        if let Some((_, rest)) = after.split_first() {
+            texts.push([before, rest].concat());
+            for &byte in bytes {
+                texts.push([before, &[byte], rest].concat());
             }
-        }
-    }
-    texts
-}
-
-/// Nothing but zeros: what is left is the sign.
-fn zeros() -> Vec<Text> {
-    let mut texts = Vec::new();
-    for sign in &SIGNS[..3] {
-        for whole in 0..=17 {
-            texts.push(format!("{sign}{}", "0".repeat(whole)).into_bytes());
-            for fraction in 0..=17 - whole {
-                texts.push(format!("{sign}{:0<whole$}.{:0<fraction$}", "", "").into_bytes());
-            }
-        }
-    }
-    texts
-}
-
-/// Decimals as files have them, with up to ten places.
-fn decimals() -> Vec<Text> {
-    let mut random = Random::new(2);
-    (0..80_000).map(|_| decimal(&mut random)).collect()
-}
-
-fn decimal(random: &mut Random) -> Text {
-    let sign = random.pick(&["", "", "-", "-", "+"]);
-    let greatest = random.pick(&[10, 100, 1000, 10_000, 1_000_001]);
-    let whole = random.below(greatest);
-    let places = random.pick(&[0, 1, 2, 3, 3, 3, 3, 4, 5, 6, 7, 8, 9, 10]);
-    let fraction: String = (0..places).map(|_| char::from(digit(random))).collect();
-    format!("{sign}{whole}.{fraction}").into_bytes()
-}
-
-/// Fifteen digits whose decimal lies almost halfway between two doubles, and one up and down.
-fn near_halfway() -> Vec<Text> {
-    let mut random = Random::new(3);
-    let mut texts = Vec::new();
-    while texts.len() < 9_000 {
-        let digits = 100_000_000_000_000 + random.below(899_999_999_999_999);
-        let places = 9 + random.below(7) as usize;
-        if is_near_halfway(digits, places as u32) {
-            for digits in digits - 1..=digits + 1 {
-                let digits = digits.to_string();
-                let (whole, fraction) = digits.split_at(15 - places);
-                texts.push(format!("{whole}.{fraction}").into_bytes());
-            }
-        }
-    }
-    texts
-}
-
-/// Whether digits / 10^places is within a thousandth of the doubles' spacing of halfway.
-fn is_near_halfway(digits: u64, places: u32) -> bool {
-    let scaled = u128::from(digits) << 60;
-    let power = 10u128.pow(places);
-    // A double has 53 bits: the quotient's leading bit and 52 more.
-    let spacing = power << ((scaled / power).ilog2() - 52);
-    (2 * (scaled % spacing)).abs_diff(spacing) < spacing / 500
-}
-
-fn letters_of_the_grammar() -> Vec<Text> {
-    random_texts(Random::new(5), 30_000, 18, |random| random.pick(LETTERS))
-}
-
-/// Each byte alone, before, in and after a number, and random runs of all bytes.
-fn any_bytes() -> Vec<Text> {
-    let mut texts = random_texts(Random::new(6), 15_000, 8, |random| random.bits() as u8);
-    for byte in 0..=255 {
-        for (before, after) in [("", ""), ("", "5"), ("5", ""), ("1", "5")] {
-            texts.push([before.as_bytes(), &[byte], after.as_bytes()].concat());
         }
     }
     texts
 }
 
 /// Texts of one byte to `longest`.
-fn random_texts(
+pub fn random(
     mut random: Random,
     count: usize,
     longest: u64,
-    byte: fn(&mut Random) -> u8,
+    byte: impl Fn(&mut Random) -> u8,
 ) -> Vec<Text> {
     let mut texts = Vec::new();
     for _ in 0..count {
@@ -231,23 +82,22 @@ fn random_texts(
     texts
 }
 
-/// Decimals with one byte changed, put in or left out.
-fn damaged() -> Vec<Text> {
-    let mut random = Random::new(4);
-    let mut texts = Vec::new();
-    for _ in 0..40_000 {
-        let mut text = decimal(&mut random);
-        let place = random.below(text.len() as u64) as usize;
-        let letter = random.pick(LETTERS);
-        let byte = random.bits() as u8;
-        match random.below(5) {
-            0 => text[place] = letter,
-            1 => text[place] = byte,
-            2 => text.insert(place, letter),
-            3 => text.insert(place, byte),
-            _ => drop(text.remove(place)),
-        }
-        texts.push(text);
+/// The text with one byte changed, put in or left out. It must not be empty.
+pub fn damaged(
+    random: &mut Random,
+    mut text: Text,
+    letters: &[u8],
+    byte: impl Fn(&mut Random) -> u8,
+) -> Text {
+    let place = random.below(text.len() as u64) as usize;
+    let letter = random.pick(letters);
+    let byte = byte(random);
+    match random.below(5) {
+        0 => text[place] = letter,
+        1 => text[place] = byte,
+        2 => text.insert(place, letter),
+        3 => text.insert(place, byte),
+        _ => drop(text.remove(place)),
     }
-    texts
+    text
 }

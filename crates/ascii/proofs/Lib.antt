@@ -3,3 +3,4 @@ pub mod LetterLaws
 pub mod ListLaws
 pub mod OutputLaws
 pub mod SignLaws
+pub mod WordLaws

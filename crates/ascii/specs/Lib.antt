@@ -3,3 +3,4 @@ pub mod Digits
 pub mod Letters
 pub mod Output
 pub mod Signs
+pub mod Words

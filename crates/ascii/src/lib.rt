@@ -4,6 +4,7 @@ mod digits;
 mod letters;
 mod output;
 mod signs;
+mod words;
 
 pub use bytes::byte_at;
 pub use digits::all_digits;
@@ -13,3 +14,5 @@ pub use letters::eq_ignore_ascii_case;
 pub use output::Placed;
 pub use output::fits_at;
 pub use signs::after_sign;
+pub use words::same_bytes;
+pub use words::starts_with;

@@ -1,11 +1,12 @@
 // The numbers through C conventions: what an answer holds is returned in parts.
-use ascii::Placed;
+use crate::placed::amount_of_placed;
+use crate::placed::outcome_of_placed;
 use numbers::Number;
 use numbers::Printed;
 ghost use mathlib.Core.Path.{_≡_};
 ghost use Rattle.numbers.specs.Reading.{numberOf};
 ghost use Rattle.numbers.specs.Writing.{printedOf, afterPrinting};
-ghost use Rattle.probe.specs.Parts.{kindOf, valueOf, outcomeOf, amountOf};
+ghost use Rattle.probe.specs.Numbers.{kindOf, valueOf, outcomeOf, amountOf};
 
 fn kind(n: Number) -> u32
     ensures { λ r. ⌜ r ≡ kindOf n ⌝ }
@@ -32,10 +33,7 @@ fn outcome(p: Printed) -> u32
 {
     match p {
         Printed::BeyondReach => 0,
-        Printed::Put(placed) => match placed {
-            Placed::NoRoom(_) => 1,
-            Placed::Next(_) => 2,
-        },
+        Printed::Put(placed) => outcome_of_placed(placed),
     }
 }
 
@@ -44,10 +42,7 @@ fn amount(p: Printed) -> usize
 {
     match p {
         Printed::BeyondReach => 0,
-        Printed::Put(placed) => match placed {
-            Placed::NoRoom(needed) => needed,
-            Placed::Next(at) => at,
-        },
+        Printed::Put(placed) => amount_of_placed(placed),
     }
 }
 

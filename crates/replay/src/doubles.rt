@@ -1,12 +1,5 @@
-// A double's bits as sixteen hexadecimal digits, and back.
-ghost use mathlib.Core.Path.{_≡_};
+// A double from sixteen hexadecimal digits of its bits.
 ghost use Prim.Native.Nat.{_<_};
-ghost use lib.ListN.{length};
-
-fn digit(n: u64) -> u8 {
-    let d = (n % 16) as u8;
-    if d < 10 { b'0' + d } else { b'a' + (d - 10) }
-}
 
 fn digit_value(b: u8) -> u64
     ensures { λ r. ⌜ r < 16 ⌝ }
@@ -16,21 +9,6 @@ fn digit_value(b: u8) -> u64
         b'a'..=b'f' => (b - b'a' + 10) as u64,
         _ => 0,
     }
-}
-
-// The digits, highest first.
-pub(crate) fn written(bits: u64) -> [u8; 16]
-    ensures { λ r. ⌜ 16 ≡ length r ⌝ }
-{
-    let mut text = [0u8; 16];
-    let mut rest = bits;
-    let mut i = 16;
-    while 0 < i {
-        i -= 1;
-        text[i] = digit(rest);
-        rest = rest / 16;
-    }
-    text
 }
 
 fn bits_of(digits: &[u8]) -> u64 {

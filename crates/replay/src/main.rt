@@ -3,18 +3,59 @@
 use libc::STDIN_FILENO;
 
 mod doubles;
+mod names_answered;
 mod numbers_answered;
 mod parts;
 mod say;
+mod tokens_answered;
 
-fn answer(question: &[u8], text: &[u8]) {
+fn answer_numbers(question: &[u8], text: &[u8]) -> bool {
     if check::same(question, b"read") {
-        return numbers_answered::read(text);
+        numbers_answered::read(text);
+        return true;
     }
     if check::same(question, b"print") {
-        return numbers_answered::print(text);
+        numbers_answered::print(text);
+        return true;
     }
-    say::say(b"not a question")
+    false
+}
+
+fn answer_tokens(question: &[u8], text: &[u8]) -> bool {
+    if check::same(question, b"tokens") {
+        tokens_answered::tokens(text);
+        return true;
+    }
+    if check::same(question, b"quote") {
+        tokens_answered::quote(text);
+        return true;
+    }
+    if check::same(question, b"sequence") {
+        tokens_answered::sequence(text);
+        return true;
+    }
+    false
+}
+
+fn answer_names(question: &[u8], text: &[u8]) -> bool {
+    if check::same(question, b"resolve") {
+        names_answered::resolve(text);
+        return true;
+    }
+    if check::same(question, b"element") {
+        names_answered::element(text);
+        return true;
+    }
+    false
+}
+
+fn answer(question: &[u8], text: &[u8]) {
+    let answered = answer_numbers(question, text)
+        || answer_tokens(question, text)
+        || answer_names(question, text);
+    if !answered {
+        say::say(b"not a question");
+    }
 }
 
 // A line is a question, a blank, and the text that it is asked of.

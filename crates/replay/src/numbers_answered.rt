@@ -1,6 +1,7 @@
 // Numbers: what a text is read as, and what a double is printed as.
 use crate::doubles;
 use crate::say::say;
+use crate::say::say_bits;
 use ascii::Placed;
 use numbers::Number;
 use numbers::Printed;
@@ -11,10 +12,7 @@ pub(crate) fn read(text: &[u8]) {
     match n {
         Number::OutsideGrammar => say(b"outside"),
         Number::BeyondReach => say(b"beyond"),
-        Number::Value(x) => {
-            let digits = doubles::written(f64::to_bits(x));
-            say(&digits)
-        }
+        Number::Value(x) => say_bits(f64::to_bits(x)),
     }
 }
 

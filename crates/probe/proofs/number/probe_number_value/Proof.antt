@@ -1,7 +1,7 @@
 -- The part is taken of what `read_number` answers.
 use mathlib.Core.Path.{ap, _∙_}
 use borrow.Author.Needs.{needs}
-use Rattle.probe.specs.Parts.{valueOf}
+use Rattle.probe.specs.Numbers.{valueOf}
 use Rattle.probe.proofs.number.probe_number_value.Statement.{statement}
 use Rattle.probe.proofs.number.probe_number_value.Tie as tie
 

@@ -1,7 +1,7 @@
 -- Both parts are taken of what `write_thousandths` answers, and the buffer is as it left it.
 use mathlib.Core.Path.{ap, _∙_}
 use borrow.Author.Needs.{needs}
-use Rattle.probe.specs.Parts.{outcomeOf, amountOf}
+use Rattle.probe.specs.Numbers.{outcomeOf, amountOf}
 use Rattle.probe.proofs.number.probe_write_thousandths.Statement.{statement}
 use Rattle.probe.proofs.number.probe_write_thousandths.Tie as tie
 

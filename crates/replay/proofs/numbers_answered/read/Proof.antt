@@ -29,17 +29,11 @@ say-requires-2 c κs = search needs
 enum-known-n : tie.Need-enum-known-n
 enum-known-n c = search needs
 
-float-to-bits-written : tie.Need-float-to-bits-written
-float-to-bits-written c = value-is-a-number (c .before .before .before .before .before .args .text .now) _ (sym (c .before .before .before .read-number .ensures) ∙ c .before .n .given .1)
+float-to-bits-say-bits : tie.Need-float-to-bits-say-bits
+float-to-bits-say-bits c = value-is-a-number (c .before .before .before .before .before .args .text .now) _ (sym (c .before .before .before .read-number .ensures) ∙ c .before .n .given .1)
 
-written-requires : tie.Need-written-requires
-written-requires c κs = search needs
-
-slice-aggregate-say-3 : tie.Need-slice-aggregate-say-3
-slice-aggregate-say-3 c = search needs
-
-say-requires-3 : tie.Need-say-requires-3
-say-requires-3 c κs = search needs
+say-bits-requires : tie.Need-say-bits-requires
+say-bits-requires c κs = search needs
 
 returns : tie.Need-returns
 returns c = search needs
@@ -62,10 +56,8 @@ read-spec =
     slice-aggregate-say-2
     say-requires-2
     enum-known-n
-    float-to-bits-written
-    written-requires
-    slice-aggregate-say-3
-    say-requires-3
+    float-to-bits-say-bits
+    say-bits-requires
     returns
     returns-2
     returns-3)

@@ -1,12 +1,11 @@
 -- The parts of the numbers' answers, as a caller in another language gets them.
 use Prim.Native.Nat.{ℕ}
 use lib.Ieee.{Float, binary64, ofBits}
-use Rattle.ascii.specs.declared.output.Placed.{Placed}
-use Rattle.ascii.specs.declared.output.Placed.the-variants.{Next, NoRoom}
 use Rattle.numbers.specs.declared.reading.Number.{Number}
 use Rattle.numbers.specs.declared.reading.Number.the-variants.{OutsideGrammar, BeyondReach, Value}
 use Rattle.numbers.specs.declared.printing.Printed.{Printed}
 use Rattle.numbers.specs.declared.printing.Printed.the-variants as printed
+use Rattle.probe.specs.Placings.{outcomeOfPlaced, amountOfPlaced}
 
 abbrev pub kindOf : Number → ℕ
 kindOf OutsideGrammar = 0
@@ -19,17 +18,9 @@ valueOf OutsideGrammar = ofBits binary64 0
 valueOf BeyondReach = ofBits binary64 0
 valueOf (Value x) = x
 
-abbrev pub outcomeOfPlaced : Placed → ℕ
-outcomeOfPlaced (NoRoom needed) = 1
-outcomeOfPlaced (Next at) = 2
-
 abbrev pub outcomeOf : Printed → ℕ
 outcomeOf printed.BeyondReach = 0
 outcomeOf (printed.Put p) = outcomeOfPlaced p
-
-abbrev pub amountOfPlaced : Placed → ℕ
-amountOfPlaced (NoRoom needed) = needed
-amountOfPlaced (Next at) = at
 
 abbrev pub amountOf : Printed → ℕ
 amountOf printed.BeyondReach = 0

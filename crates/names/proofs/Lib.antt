@@ -1,0 +1,12 @@
+pub mod CellTurns
+pub mod CodesAreInverse
+pub mod PackingIsOneToOne
+pub mod PackingKeepsOrder
+pub mod PackingTurns
+pub mod PlacesInOrder
+pub mod ResiduesByNumber
+pub mod ResolvingTwice
+pub mod RowsInOrder
+pub mod SymbolsByName
+pub mod SymbolsReadAgain
+pub mod TablesByTest

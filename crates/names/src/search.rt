@@ -1,0 +1,44 @@
+// The place of a name in a list of packed names.
+ghost use mathlib.Core.Path.{_≡_};
+ghost use mathlib.Core.Bool.{true};
+ghost use Rattle.names.specs.Places.{placeOf, ascends};
+
+pub enum Place {
+    At(usize),
+    Nowhere,
+}
+
+// In a list in ascending order, by halves: what is sought lies from lo on and before hi, if anywhere.
+pub(crate) fn place_in_order(names: &[u64], name: u64) -> Place
+    requires { ⌜ ascends (now names) ≡ true ⌝ }
+    ensures { λ r. ⌜ r ≡ placeOf name (now (names .entry)) ⌝ }
+{
+    let mut lo = 0;
+    let mut hi = names.len();
+    while lo < hi {
+        let mid = lo + (hi - lo) / 2;
+        if names[mid] == name {
+            return Place::At(mid);
+        }
+        if names[mid] < name {
+            lo = mid + 1;
+        } else {
+            hi = mid;
+        }
+    }
+    Place::Nowhere
+}
+
+// In a list in any order, one after the other.
+pub(crate) fn place_of(names: &[u64], name: u64) -> Place
+    ensures { λ r. ⌜ r ≡ placeOf name (now (names .entry)) ⌝ }
+{
+    let mut i = 0;
+    while i < names.len() {
+        if names[i] == name {
+            return Place::At(i);
+        }
+        i += 1;
+    }
+    Place::Nowhere
+}

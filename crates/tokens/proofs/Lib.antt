@@ -1,0 +1,10 @@
+pub mod ItemLaws
+pub mod LineReadsBack
+pub mod NameReadsBack
+pub mod NoTokenIsEmpty
+pub mod PutLaws
+pub mod QuoteLaws
+pub mod SequenceLaws
+pub mod TokenLaws
+pub mod TrimLaws
+pub mod WalkLaws

@@ -1,0 +1,9 @@
+pub mod Items
+pub mod Kinds
+pub mod Line
+pub mod Quote
+pub mod Sequence
+pub mod Tokens
+pub mod Trim
+pub mod Walk
+pub mod Words

@@ -1,0 +1,35 @@
+// A line without the blanks at its ends: where it starts, and where it ends.
+use crate::kinds::is_blank;
+ghost use mathlib.Core.Path.{_≡_};
+ghost use Prim.Native.Nat.{_≤_};
+ghost use lib.ListN.{length, take, drop};
+ghost use Rattle.tokens.specs.Trim.{trimStart, trimEnd};
+
+// The place of the first byte that is no blank, or the end.
+pub(crate) fn trim_start(line: &[u8]) -> usize
+    ensures { λ r. ⌜ (r ≤ length (now (line .entry))) × (drop r (now (line .entry)) ≡ trimStart (now (line .entry))) ⌝ }
+{
+    let mut i = 0;
+    while i < line.len() {
+        if !is_blank(line[i]) {
+            return i;
+        }
+        i += 1;
+    }
+    i
+}
+
+// The place after the last byte that is no blank, or the start.
+pub(crate) fn trim_end(line: &[u8]) -> usize
+    ensures { λ r. ⌜ (r ≤ length (now (line .entry))) × (take r (now (line .entry)) ≡ trimEnd (now (line .entry))) ⌝ }
+{
+    let mut i = line.len();
+    while 0 < i {
+        let j = i - 1;
+        if !is_blank(line[j]) {
+            return i;
+        }
+        i = j;
+    }
+    0
+}
