@@ -1,7 +1,8 @@
--- The categories of residues, and the number that stands for each in a lent record.
+-- The categories of residues, the number that stands for each in a lent record, and the name that it is shown by.
 use Prim.Native.Nat.{ℕ}
 use mathlib.Core.List.{List, [], _∷_, map}
 use lib.ListN.{getD}
+use Rattle.ascii.specs.Bytes.{bytes}
 use Rattle.names.specs.declared.residues.ResidueCategory.{ResidueCategory}
 use Rattle.names.specs.declared.residues.ResidueCategory.the-variants.{Standard, Hetero, Ion}
 use Rattle.names.specs.declared.residues.FoundCategory.{FoundCategory}
@@ -11,6 +12,11 @@ abbrev pub categoryCode : ResidueCategory → ℕ
 categoryCode Standard = 1
 categoryCode Hetero = 2
 categoryCode Ion = 3
+
+abbrev pub categoryName : ResidueCategory → List ℕ
+categoryName Standard = bytes "Standard Residue"
+categoryName Hetero = bytes "Hetero Residue"
+categoryName Ion = bytes "Ion"
 
 -- in the order of their numbers, from 1 on
 unfoldable pub residueCategories : List ResidueCategory

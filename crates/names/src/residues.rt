@@ -1,10 +1,10 @@
 // What a residue is: the standard residues, categories, positions and polymer kinds, with the numbers that stand for them in lent records.
 ghost use mathlib.Core.Path.{_≡_};
-ghost use Rattle.names.specs.Packing.{packed};
+ghost use Rattle.names.specs.Packing.{packed, cellOf};
 ghost use Rattle.names.specs.Residues.{residueCode, residueOf, residueName};
 ghost use Rattle.names.specs.Polymers.{isProtein, isNucleic, polymerOf};
-ghost use Rattle.names.specs.Categories.{categoryCode, categoryOf};
-ghost use Rattle.names.specs.Positions.{positionCode, positionOf};
+ghost use Rattle.names.specs.Categories.{categoryCode, categoryName, categoryOf};
+ghost use Rattle.names.specs.Positions.{positionCode, positionName, positionOf};
 
 // The twenty amino acids, the bases of RNA and of DNA, and water.
 pub enum StandardResidue {
@@ -275,6 +275,17 @@ impl ResidueCategory {
         }
     }
 
+    // The name that the category is shown by, zeros after it.
+    pub fn name(self) -> [u8; 16]
+        ensures { λ r. ⌜ r ≡ cellOf 16 (categoryName self) ⌝ }
+    {
+        match self {
+            ResidueCategory::Standard => *b"Standard Residue",
+            ResidueCategory::Hetero => *b"Hetero Residue\0\0",
+            ResidueCategory::Ion => *b"Ion\0\0\0\0\0\0\0\0\0\0\0\0\0",
+        }
+    }
+
     pub fn of_code(code: u8) -> FoundCategory
         ensures { λ r. ⌜ r ≡ categoryOf code ⌝ }
     {
@@ -302,6 +313,20 @@ impl ResiduePosition {
             ResiduePosition::CTerminal => 3,
             ResiduePosition::FivePrime => 4,
             ResiduePosition::ThreePrime => 5,
+        }
+    }
+
+    // The name that the position is shown by, zeros after it.
+    pub fn name(self) -> [u8; 16]
+        ensures { λ r. ⌜ r ≡ cellOf 16 (positionName self) ⌝ }
+    {
+        match self {
+            ResiduePosition::None => *b"None\0\0\0\0\0\0\0\0\0\0\0\0",
+            ResiduePosition::Internal => *b"Internal\0\0\0\0\0\0\0\0",
+            ResiduePosition::NTerminal => *b"N-Terminal\0\0\0\0\0\0",
+            ResiduePosition::CTerminal => *b"C-Terminal\0\0\0\0\0\0",
+            ResiduePosition::FivePrime => *b"5'-Terminal\0\0\0\0\0",
+            ResiduePosition::ThreePrime => *b"3'-Terminal\0\0\0\0\0",
         }
     }
 
