@@ -1,0 +1,8 @@
+pub mod ClearingLaws
+pub mod InsertionLaws
+pub mod KeptAscending
+pub mod MapLaws
+pub mod OrderLaws
+pub mod PairLaws
+pub mod PlaceLaws
+pub mod SearchLaws

@@ -1,0 +1,21 @@
+// Lent slices kept in order, one slice to a field: an entry put in, stored or looked for, and what is past the entries cleared.
+mod clearing;
+mod insertion;
+mod places;
+mod storing;
+
+pub use clearing::clear_f64_from;
+pub use clearing::clear_point_from;
+pub use clearing::clear_u8_from;
+pub use clearing::clear_u64_from;
+pub use insertion::insert_f64;
+pub use insertion::insert_point;
+pub use insertion::insert_u8;
+pub use insertion::insert_u64;
+pub use places::Place;
+pub use places::place_of;
+pub use places::place_of_key;
+pub use storing::store_f64;
+pub use storing::store_point;
+pub use storing::store_u8;
+pub use storing::store_u64;
