@@ -1,0 +1,10 @@
+pub mod AuthBeforeLabel
+pub mod CaseLaws
+pub mod ColumnLaws
+pub mod ColumnsByItem
+pub mod LaterColumnCounts
+pub mod ReachLaws
+pub mod RowCases
+pub mod RowsKept
+pub mod RowsSkipped
+pub mod TokensFitTheLine

@@ -1,0 +1,62 @@
+-- A row is kept where it reaches all that it must, its numbers are values and its names fit; and a kept row's names fit, since step 7 is the last.
+use mathlib.Core.Path.{_≡_, ap, subst, _∙_}
+use mathlib.Core.Bool.{Bool, true, false, not, cond}
+use Prim.Native.Nat.{_≤_}
+use lib.Dec.{T, nltb→le}
+use lib.Ieee.{Float}
+use borrow.Author.Tests.{le-ltb}
+use Rattle.numbers.specs.declared.reading.Number.the-variants.{Value}
+use Rattle.rows.specs.declared.fields.Coordinate.{Coordinate}
+use Rattle.rows.specs.declared.fields.Coordinate.the-variants.{Given}
+use Rattle.rows.specs.declared.fields.Fields.{Fields}
+use Rattle.rows.specs.declared.fields.Reach.{Reach}
+use Rattle.rows.specs.declared.fields.Reach.the-variants.{Whole}
+use Rattle.rows.specs.declared.rules.Point3.{Point3}
+use Rattle.rows.specs.declared.rules.Refusal.the-variants.{NameTooLong}
+use Rattle.rows.specs.declared.rules.Row.{Row}
+use Rattle.rows.specs.declared.rules.Row.the-variants.{Refused, Skipped, Kept}
+use Rattle.rows.specs.declared.rules.Site.{Site}
+use Rattle.rows.specs.Rules.{siteOf, tooLong, named, byOccupancy, occupied, located, givenAll, reached, byReach, rowOf}
+use Rattle.rows.proofs.RowCases.{row-is}
+
+-- the three names have at most 8 bytes
+pub record NamesFit (f : Fields) : Type 0 where
+  pub atom : f .atom .length ≤ 8
+  pub residue : f .residue .length ≤ 8
+  pub chain : f .chain .length ≤ 8
+
+-- ---- with all of it: kept
+named-kept : (f : Fields) → NamesFit f → (position : Point3) (o : Float) (assumed : Bool) → named f position o assumed ≡ Kept (siteOf f position o assumed)
+unfolding named
+named-kept f n position o assumed = rw (le-ltb 8 (f .atom .length) (n .atom), le-ltb 8 (f .residue .length) (n .residue), le-ltb 8 (f .chain .length) (n .chain))
+
+pub kept : (f : Fields) {x y z o : Float} → f .reach ≡ Whole → f .x ≡ Given (Value x) → f .y ≡ Given (Value y) → f .z ≡ Given (Value z) → f .occupancy ≡ Given (Value o) → NamesFit f → rowOf f ≡ Kept (siteOf f (record { x = x; y = y; z = z }) o false)
+unfolding rowOf reached located occupied
+kept f {x} {y} {z} {o} er ex ey ez eo n =
+    ap (λ (r : Reach). byReach r (reached f)) er
+    ∙ ap (λ (c : Coordinate). givenAll c (f .y) (f .z) (located f)) ex
+    ∙ ap (λ (c : Coordinate). givenAll (Given (Value x)) c (f .z) (located f)) ey
+    ∙ ap (λ (c : Coordinate). givenAll (Given (Value x)) (Given (Value y)) c (located f)) ez
+    ∙ ap (λ (c : Coordinate). byOccupancy c (named f (record { x = x; y = y; z = z }))) eo
+    ∙ named-kept f n (record { x = x; y = y; z = z }) o false
+
+-- ---- kept: the names fit
+abbrev IfKept : Fields → Row → Type 0
+IfKept f (Refused r) = Unit {0}
+IfKept f Skipped = Unit {0}
+IfKept f (Kept s) = NamesFit f
+
+named-fit : (f : Fields) (position : Point3) (o : Float) (assumed : Bool) → IfKept f (named f position o assumed)
+unfolding named
+named-fit f position o assumed = go (tooLong (f .atom)) (tooLong (f .residue)) (tooLong (f .chain)) (nltb→le 8 (f .atom .length)) (nltb→le 8 (f .residue .length)) (nltb→le 8 (f .chain .length))
+  where
+    go :
+        (t u v : Bool) → (T (not t) → f .atom .length ≤ 8) → (T (not u) → f .residue .length ≤ 8) → (T (not v) → f .chain .length ≤ 8)
+        → IfKept f (cond t (Refused (NameTooLong 1)) (cond u (Refused (NameTooLong 2)) (cond v (Refused (NameTooLong 3)) (Kept (siteOf f position o assumed)))))
+    go true u v a r c = tt
+    go false true v a r c = tt
+    go false false true a r c = tt
+    go false false false a r c = record { atom = a tt; residue = r tt; chain = c tt }
+
+pub names-fit : (f : Fields) (s : Site) → rowOf f ≡ Kept s → NamesFit f
+names-fit f s e = subst (IfKept f) e (row-is (IfKept f) (λ r. tt) f (named-fit f) tt)

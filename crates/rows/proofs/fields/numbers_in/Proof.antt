@@ -1,0 +1,64 @@
+-- Each number is the one at its column.
+use mathlib.Core.Path.{ap, _∙_}
+use Prim.Native.Nat.{ℕ}
+use borrow.Author.Needs.{needs}
+use Rattle.tokens.specs.Tokens.{tokenAt}
+use Rattle.rows.specs.Fields.{coordinateOf, occupancyAt}
+use Rattle.rows.proofs.fields.numbers_in.Statement.{statement}
+use Rattle.rows.proofs.fields.numbers_in.Tie as tie
+
+x-requires : tie.Need-x-requires
+x-requires c κs = search needs
+
+coordinate-at-requires : tie.Need-coordinate-at-requires
+coordinate-at-requires c κs = search needs
+
+y-requires : tie.Need-y-requires
+y-requires c κs = search needs
+
+coordinate-at-requires-2 : tie.Need-coordinate-at-requires-2
+coordinate-at-requires-2 c κs = search needs
+
+z-requires : tie.Need-z-requires
+z-requires c κs = search needs
+
+coordinate-at-requires-3 : tie.Need-coordinate-at-requires-3
+coordinate-at-requires-3 c κs = search needs
+
+occupancy-requires : tie.Need-occupancy-requires
+occupancy-requires c κs = search needs
+
+occupancy-at-requires : tie.Need-occupancy-at-requires
+occupancy-at-requires c κs = search needs
+
+same-length : tie.Need-same-length
+same-length c = search needs
+
+returns : tie.Need-returns
+returns c =
+    let occupancy = c .before .before in
+    let z = occupancy .before .before .before .before .before in
+    let y = z .before .before .before .before .before in
+    let x = y .before .before .before .before .before in
+    let line = x .before .before .before .before .before .args .line .now in
+    λ i. record {
+      x = (x .coordinate-at .ensures ∙ ap (λ (k : ℕ). coordinateOf (tokenAt line k)) (x .before .before .x .ensures)) i;
+      y = (y .coordinate-at2 .ensures ∙ ap (λ (k : ℕ). coordinateOf (tokenAt line k)) (y .before .before .y .ensures)) i;
+      z = (z .coordinate-at3 .ensures ∙ ap (λ (k : ℕ). coordinateOf (tokenAt line k)) (z .before .before .z .ensures)) i;
+      occupancy = (occupancy .occupancy-at .ensures ∙ ap (occupancyAt line) (occupancy .before .before .occupancy .ensures)) i;
+    }
+
+pub numbers-in-spec : {M : Type 1} → statement M
+numbers-in-spec =
+    tie.close
+    (tie.spec
+    x-requires
+    coordinate-at-requires
+    y-requires
+    coordinate-at-requires-2
+    z-requires
+    coordinate-at-requires-3
+    occupancy-requires
+    occupancy-at-requires
+    same-length
+    returns)

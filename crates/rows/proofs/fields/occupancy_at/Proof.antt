@@ -1,0 +1,28 @@
+-- An absent column gives no occupancy; else it is read as the coordinates are.
+use mathlib.Core.Path.{_∙_}
+use borrow.Author.Needs.{needs}
+use Rattle.rows.specs.Fields.{occupancyAt}
+use Rattle.rows.proofs.CaseLaws.{by-true, by-false}
+use Rattle.rows.proofs.fields.occupancy_at.Statement.{statement}
+use Rattle.rows.proofs.fields.occupancy_at.Tie as tie
+
+is-absent-requires : tie.Need-is-absent-requires
+is-absent-requires c κs = search needs
+
+returns : tie.Need-returns
+unfolding occupancyAt
+returns c = by-true _ _ (c .before .is-absent .ensures) (c .if1 .taken)
+
+coordinate-at-requires : tie.Need-coordinate-at-requires
+coordinate-at-requires c κs = search needs
+
+same-length : tie.Need-same-length
+same-length c = search needs
+
+returns-2 : tie.Need-returns-2
+unfolding occupancyAt
+returns-2 c = c .before .before .coordinate-at .ensures ∙ by-false _ _ (c .before .before .before .before .before .is-absent .ensures) (c .before .before .before .before .if1 .left)
+
+pub occupancy-at-spec : {M : Type 1} → statement M
+occupancy-at-spec =
+    tie.close (tie.spec is-absent-requires returns coordinate-at-requires same-length returns-2)

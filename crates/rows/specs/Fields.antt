@@ -1,0 +1,101 @@
+-- The fields of a row, taken out of its line: each is what the token at its column says.
+use mathlib.Core.Path.{_≡_}
+use Prim.Native.Nat.{ℕ, _≤_}
+use mathlib.Core.Bool.{Bool, false, cond}
+use mathlib.Core.List.{List}
+use lib.ListN.{length, take}
+use Rattle.ascii.specs.Bytes.{bytes, first}
+use Rattle.numbers.specs.Reading.{numberOf}
+use Rattle.tokens.specs.Tokens.{tokensOf, tokenAt}
+use Rattle.tokens.specs.Words.{isMissing, isHetatm}
+use Rattle.tokens.specs.Sequence.{sequenceOf}
+use Rattle.names.specs.Packing.{packed}
+use Rattle.names.specs.Elements.{elementOf}
+use Rattle.rows.specs.declared.columns.Columns.{Columns}
+use Rattle.rows.specs.declared.fields.Name.{Name}
+use Rattle.rows.specs.declared.fields.Coordinate.{Coordinate}
+use Rattle.rows.specs.declared.fields.Coordinate.the-variants.{Missing, Given}
+use Rattle.rows.specs.declared.fields.Fields.{Fields}
+use Rattle.rows.specs.declared.fields.Labels.{Labels}
+use Rattle.rows.specs.declared.fields.Numbers.{Numbers}
+use Rattle.rows.specs.declared.fields.Reach.{Reach}
+use Rattle.rows.specs.Columns.{isAbsent}
+use Rattle.rows.specs.Columns as columns
+use Rattle.rows.specs.Reach.{reachOf}
+
+-- ---- what a token says
+
+abbrev pub nameOf : List ℕ → Name
+nameOf token = record { length = length token; packed = packed token }
+
+-- "Chain `.` is `?`."
+abbrev pub chainOf : List ℕ → Name
+chainOf token = cond (isMissing token) (nameOf (bytes "?")) (nameOf token)
+
+-- "Insertion code: first byte of the token; none for `.` or `?` (the whole token)."
+abbrev pub insertionCodeOf : List ℕ → ℕ
+insertionCodeOf token = cond (isMissing token) 0 (first token)
+
+abbrev pub coordinateOf : List ℕ → Coordinate
+coordinateOf token = cond (isMissing token) Missing (Given (numberOf token))
+
+-- ---- the token at a column
+
+-- the token stands at the front of the cell, and is n bytes long
+pub record Copied (token : List ℕ) (n : ℕ) (cell : List ℕ) : Type 0 where
+  pub within : n ≤ length cell
+  pub front : take n cell ≡ token
+
+-- "An absent column gives no mark, no code, Unknown", and no occupancy
+abbrev pub ifDeclared : {A : Type 0} → ℕ → A → A → A
+ifDeclared column value other = cond (isAbsent column) other value
+
+unfoldable pub hetatmAt : List ℕ → ℕ → Bool
+hetatmAt line column = ifDeclared column (isHetatm (tokenAt line column)) false
+
+unfoldable pub insertionCodeAt : List ℕ → ℕ → ℕ
+insertionCodeAt line column = ifDeclared column (insertionCodeOf (tokenAt line column)) 0
+
+unfoldable pub occupancyAt : List ℕ → ℕ → Coordinate
+occupancyAt line column = ifDeclared column (coordinateOf (tokenAt line column)) Missing
+
+unfoldable pub elementAt : List ℕ → ℕ → ℕ
+elementAt line column = ifDeclared column (elementOf (tokenAt line column)) 0
+
+-- ---- all of them, in parts
+
+abbrev pub labelsOf : Columns → List ℕ → Labels
+labelsOf c line = record {
+  atom = nameOf (tokenAt line (columns.atom c));
+  residue = nameOf (tokenAt line (columns.residue c));
+  chain = chainOf (tokenAt line (columns.chain c));
+  sequence = sequenceOf (tokenAt line (columns.sequence c));
+  «insertion_code» = insertionCodeAt line (columns.insertionCode c);
+}
+
+abbrev pub numbersOf : Columns → List ℕ → Numbers
+numbersOf c line = record {
+  x = coordinateOf (tokenAt line (columns.x c));
+  y = coordinateOf (tokenAt line (columns.y c));
+  z = coordinateOf (tokenAt line (columns.z c));
+  occupancy = occupancyAt line (columns.occupancy c);
+}
+
+abbrev pub joinedOf : Reach → Bool → Labels → Numbers → ℕ → Fields
+joinedOf reach hetatm labels numbers element = record {
+  reach = reach;
+  hetatm = hetatm;
+  atom = labels .atom;
+  residue = labels .residue;
+  chain = labels .chain;
+  sequence = labels .sequence;
+  «insertion_code» = labels .«insertion_code»;
+  x = numbers .x;
+  y = numbers .y;
+  z = numbers .z;
+  occupancy = numbers .occupancy;
+  element = element;
+}
+
+unfoldable pub fieldsOf : Columns → List ℕ → Fields
+fieldsOf c line = joinedOf (reachOf c (length (tokensOf line))) (hetatmAt line (columns.group c)) (labelsOf c line) (numbersOf c line) (elementAt line (columns.symbol c))

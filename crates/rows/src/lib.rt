@@ -1,0 +1,19 @@
+// One row of an atom loop: its columns, its fields, and the rules that make a site of them.
+mod columns;
+mod fields;
+mod reach;
+mod rules;
+
+pub use columns::Columns;
+pub use columns::no_columns;
+pub use columns::with_column;
+pub use fields::Coordinate;
+pub use fields::Fields;
+pub use fields::Name;
+pub use fields::Reach;
+pub use fields::fields_of;
+pub use rules::Point3;
+pub use rules::Refusal;
+pub use rules::Row;
+pub use rules::Site;
+pub use rules::row_of;
