@@ -1,0 +1,79 @@
+-- Document 01's whole case, as rows: the second row does not replace the first, since its occupancy is equal; the third one's is assumed. And one atom
+-- more than there is room for.
+use mathlib.Core.Path.{_≡_, refl}
+use mathlib.Core.Bool.{Bool, true, false}
+use mathlib.Core.List.{List, [], _∷_}
+use Prim.Native.Nat.{ℕ, _+_, _^_}
+use Prim.Native.String.{String}
+use lib.Ieee.{Float, binary64, ofBits, lt}
+use Rattle.ascii.specs.Bytes.{bytes}
+use Rattle.names.specs.Packing.{packedIn, packed}
+use Rattle.rows.specs.declared.rules.Point3.{Point3}
+use Rattle.rows.specs.declared.rules.Site.{Site}
+use Rattle.model.specs.Chains.{chainPlace, withChain}
+use Rattle.model.specs.Fold.{State, step, run}
+use Rattle.model.specs.Keys.{residueKey, atomPlace, residueAt, atomAt}
+use Rattle.model.specs.Map.{find, put}
+use Rattle.model.specs.Room.{Room, lacking, whole, stopped, readFrom, readWithin}
+use Rattle.model.specs.Taken.{Taken, site}
+
+-- the double nearest 0.6, and 1.0
+abbrev six-tenths : Float
+six-tenths = ofBits binary64 0x3fe3_3333_3333_3333
+
+abbrev one : Float
+one = ofBits binary64 0x3ff0_0000_0000_0000
+
+abbrev name : String → ℕ
+name s = packed (bytes s)
+
+module _ (p q r : Point3) where
+  abbrev ca : Point3 → Taken
+  ca p = site (record {
+    chain = name "A";
+    sequence = 2 ^ 31 + 7;
+    «insertion_code» = 0;
+    residue = name "MSE";
+    hetatm = false;
+    atom = name "CA";
+    element = 6;
+    position = p;
+    occupancy = six-tenths;
+    assumed = false;
+  })
+
+  abbrev o : Taken
+  o = site (record {
+    chain = name "A";
+    sequence = 2 ^ 31 + 9;
+    «insertion_code» = 0;
+    residue = name "QQQ";
+    hetatm = true;
+    atom = name "O'";
+    element = 8;
+    position = r;
+    occupancy = one;
+    assumed = true;
+  })
+
+  pub whole-case : readWithin (record { chains = 1; residues = 2; atoms = 2 }) (ca p ∷ ca q ∷ o ∷ []) ≡ whole (record {
+    chains = name "A" ∷ [];
+    residues =
+        record { key = residueKey 0 (2 ^ 31 + 7) 0; value = record { name = name "MSE"; hetatm = false } }
+        ∷ record { key = residueKey 0 (2 ^ 31 + 9) 0; value = record { name = name "QQQ"; hetatm = true } }
+        ∷ [];
+    atoms =
+        record { key = atomPlace (residueKey 0 (2 ^ 31 + 7) 0) (name "CA"); value = record { element = 6; position = p; occupancy = six-tenths } }
+        ∷ record { key = atomPlace (residueKey 0 (2 ^ 31 + 9) 0) (name "O'"); value = record { element = 8; position = r; occupancy = one } }
+        ∷ [];
+    rows = 3;
+    skipped = 0;
+    outdone = 1;
+    assumed = 1;
+  })
+  unfolding readFrom lacking step put find chainPlace withChain residueAt atomAt packedIn lt ofBits
+  whole-case = refl
+
+  pub one-atom-too-many : readWithin (record { chains = 1; residues = 2; atoms = 1 }) (ca p ∷ ca q ∷ o ∷ []) ≡ stopped 2 3
+  unfolding readFrom lacking step put find chainPlace withChain residueAt atomAt packedIn lt ofBits
+  one-atom-too-many = refl

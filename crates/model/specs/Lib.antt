@@ -1,0 +1,10 @@
+pub mod Alike
+pub mod Chains
+pub mod Fold
+pub mod Keys
+pub mod Lists
+pub mod Map
+pub mod Proper
+pub mod Room
+pub mod Rules
+pub mod Taken

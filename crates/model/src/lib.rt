@@ -1,0 +1,1 @@
+// The model that a list of rows gives.
