@@ -8,25 +8,15 @@ pub enum Place {
     Nowhere,
 }
 
-// In a list in ascending order, by halves: what is sought lies from lo on and before hi, if anywhere.
+// In a list in ascending order.
 pub(crate) fn place_in_order(names: &[u64], name: u64) -> Place
     requires { ⌜ ascends (now names) ≡ true ⌝ }
     ensures { λ r. ⌜ r ≡ placeOf name (now (names .entry)) ⌝ }
 {
-    let mut lo = 0;
-    let mut hi = names.len();
-    while lo < hi {
-        let mid = lo + (hi - lo) / 2;
-        if names[mid] == name {
-            return Place::At(mid);
-        }
-        if names[mid] < name {
-            lo = mid + 1;
-        } else {
-            hi = mid;
-        }
+    match records::place_of_key(names, names.len(), name) {
+        records::Place::At(i) => Place::At(i),
+        records::Place::Before(_) => Place::Nowhere,
     }
-    Place::Nowhere
 }
 
 // In a list in any order, one after the other.
