@@ -11,11 +11,14 @@ pub mod KeysTellApart
 pub mod KnownNeedsNoRoom
 pub mod ListLaws
 pub mod MapLaws
+pub mod OccupancyIsFinite
 pub mod OrderOfLines
 pub mod OrderOfRows
 pub mod OutdoneCounted
 pub mod PutByIndex
 pub mod ReadByTheRules
 pub mod RoomIsForTheEnd
+pub mod RoomLaws
 pub mod RulesDecide
+pub mod StopsAtTheFirst
 pub mod WorkedReading

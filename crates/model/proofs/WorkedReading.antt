@@ -1,7 +1,7 @@
--- Document 01's whole case, as rows: the second row does not replace the first, since its occupancy is equal; the third one's is assumed. And one atom
--- more than there is room for.
+-- Document 01's whole case, as rows: the second row does not replace the first, since its occupancy is equal; the third one's is assumed. Where
+-- there is no room, the chain comes before the residue, and the residue before the atom.
 use mathlib.Core.Path.{_≡_, refl}
-use mathlib.Core.Bool.{Bool, true, false}
+use mathlib.Core.Bool.{true, false}
 use mathlib.Core.List.{List, [], _∷_}
 use Prim.Native.Nat.{ℕ, _+_, _^_}
 use Prim.Native.String.{String}
@@ -9,9 +9,8 @@ use lib.Ieee.{Float, binary64, ofBits, lt}
 use Rattle.ascii.specs.Bytes.{bytes}
 use Rattle.names.specs.Packing.{packedIn, packed}
 use Rattle.rows.specs.declared.rules.Point3.{Point3}
-use Rattle.rows.specs.declared.rules.Site.{Site}
 use Rattle.model.specs.Chains.{chainPlace, withChain}
-use Rattle.model.specs.Fold.{State, step, run}
+use Rattle.model.specs.Fold.{step}
 use Rattle.model.specs.Keys.{residueKey, atomPlace, residueAt, atomAt}
 use Rattle.model.specs.Map.{find, put}
 use Rattle.model.specs.Room.{Room, lacking, whole, stopped, readFrom, readWithin}
@@ -26,6 +25,9 @@ one = ofBits binary64 0x3ff0_0000_0000_0000
 
 abbrev name : String → ℕ
 name s = packed (bytes s)
+
+abbrev room : ℕ → ℕ → ℕ → Room
+room chains residues atoms = record { chains = chains; residues = residues; atoms = atoms }
 
 module _ (p q r : Point3) where
   abbrev ca : Point3 → Taken
@@ -56,7 +58,10 @@ module _ (p q r : Point3) where
     assumed = true;
   })
 
-  pub whole-case : readWithin (record { chains = 1; residues = 2; atoms = 2 }) (ca p ∷ ca q ∷ o ∷ []) ≡ whole (record {
+  abbrev case : List Taken
+  case = ca p ∷ ca q ∷ o ∷ []
+
+  pub whole-case : readWithin (room 1 2 2) case ≡ whole (record {
     chains = name "A" ∷ [];
     residues =
         record { key = residueKey 0 (2 ^ 31 + 7) 0; value = record { name = name "MSE"; hetatm = false } }
@@ -74,6 +79,14 @@ module _ (p q r : Point3) where
   unfolding readFrom lacking step put find chainPlace withChain residueAt atomAt packedIn lt ofBits
   whole-case = refl
 
-  pub one-atom-too-many : readWithin (record { chains = 1; residues = 2; atoms = 1 }) (ca p ∷ ca q ∷ o ∷ []) ≡ stopped 2 3
+  pub no-room-for-atom : readWithin (room 1 2 1) case ≡ stopped 2 3
   unfolding readFrom lacking step put find chainPlace withChain residueAt atomAt packedIn lt ofBits
-  one-atom-too-many = refl
+  no-room-for-atom = refl
+
+  pub no-room-for-residue : readWithin (room 1 1 1) case ≡ stopped 2 2
+  unfolding readFrom lacking step put find chainPlace withChain residueAt atomAt packedIn lt ofBits
+  no-room-for-residue = refl
+
+  pub no-room-for-chain : readWithin (room 0 0 0) case ≡ stopped 0 1
+  unfolding readFrom lacking step put find chainPlace withChain residueAt atomAt packedIn lt ofBits
+  no-room-for-chain = refl

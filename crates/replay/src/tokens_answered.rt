@@ -21,7 +21,7 @@ fn say_token(line: &[u8], k: usize) -> bool {
     true
 }
 
-// Each token of the line: it has fewer than bytes.
+// Each token of the line, which has no more of them than bytes.
 pub(crate) fn tokens(line: &[u8]) {
     let mut k = 0;
     while k <= line.len() && say_token(line, k) {

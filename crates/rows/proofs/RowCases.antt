@@ -1,4 +1,7 @@
--- What holds of every refusal and of whatever step 7 gives holds of every row that is not skipped: the steps before it only refuse, or hand on.
+-- What holds of every refusal and of whatever step 7 gives holds of every row that is not skipped: the steps before it only refuse, or hand on. The
+-- occupancy that they hand on is the one that is given, or 1.
+use mathlib.Core.Path.{_≡_, refl}
+use mathlib.Core.Logic.{_⊎_, inl, inr}
 use mathlib.Core.Bool.{Bool}
 use Prim.Native.Nat.{ℕ}
 use lib.Ieee.{Float}
@@ -16,12 +19,15 @@ use Rattle.rows.specs.declared.rules.Row.{Row}
 use Rattle.rows.specs.declared.rules.Row.the-variants.{Refused, Skipped}
 use Rattle.rows.specs.Rules.{one, named, byOccupancy, occupied, axisOf, byAxis, located, givenAll, reached, byReach, rowOf}
 
+abbrev pub IsOccupancy : Coordinate → Float → Type 0
+IsOccupancy c o = (o ≡ one) ⊎ (c ≡ Given (number.Value o))
+
 module _ (P : Row → Type 0) (refused : (r : Refusal) → P (Refused r)) where
-  by-occupancy : (c : Coordinate) (row : Float → Bool → Row) → ((o : Float) (assumed : Bool) → P (row o assumed)) → P (byOccupancy c row)
-  by-occupancy Missing row h = h one _
-  by-occupancy (Given number.OutsideGrammar) row h = h one _
+  by-occupancy : (c : Coordinate) (row : Float → Bool → Row) → ((o : Float) (assumed : Bool) → IsOccupancy c o → P (row o assumed)) → P (byOccupancy c row)
+  by-occupancy Missing row h = h one _ (inl refl)
+  by-occupancy (Given number.OutsideGrammar) row h = h one _ (inl refl)
   by-occupancy (Given number.BeyondReach) row h = refused (refusal.BeyondReach 4)
-  by-occupancy (Given (number.Value v)) row h = h v _
+  by-occupancy (Given (number.Value v)) row h = h v _ (inr refl)
 
   by-axis : (k : ℕ) (n : Number) (row : Float → Row) → ((v : Float) → P (row v)) → P (byAxis (axisOf k n) row)
   by-axis k number.OutsideGrammar row h = refused (refusal.OutsideGrammar k)
@@ -39,7 +45,7 @@ module _ (P : Row → Type 0) (refused : (r : Refusal) → P (Refused r)) where
   by-reach (ColumnMissing k) row h = refused (refusal.ColumnMissing k)
   by-reach Short row h = refused refusal.RowShort
 
-  module _ (f : Fields) (last : (position : Point3) (o : Float) (assumed : Bool) → P (named f position o assumed)) where
+  module _ (f : Fields) (last : (position : Point3) (o : Float) (assumed : Bool) → IsOccupancy (f .occupancy) o → P (named f position o assumed)) where
     pub located-is : (x y z : Number) → P (located f x y z)
     unfolding located occupied
     located-is x y z = by-axis 1 x _ (λ x. by-axis 2 y _ (λ y. by-axis 3 z _ (λ z. by-occupancy (f .occupancy) (named f (record { x = x; y = y; z = z })) (last (record { x = x; y = y; z = z })))))

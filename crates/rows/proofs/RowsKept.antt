@@ -59,4 +59,4 @@ named-fit f position o assumed = go (tooLong (f .atom)) (tooLong (f .residue)) (
     go false false false a r c = record { atom = a tt; residue = r tt; chain = c tt }
 
 pub names-fit : (f : Fields) (s : Site) → rowOf f ≡ Kept s → NamesFit f
-names-fit f s e = subst (IfKept f) e (row-is (IfKept f) (λ r. tt) f (named-fit f) tt)
+names-fit f s e = subst (IfKept f) e (row-is (IfKept f) (λ r. tt) f (λ position o assumed h. named-fit f position o assumed) tt)
