@@ -1,0 +1,70 @@
+-- Each count goes up by one where it should, and what lacks room is found by the tests in their order.
+use mathlib.Core.Path.{_≡_, refl, ap, _∙_}
+use mathlib.Core.Bool.{Bool, true, false, cond, _&&_}
+use Prim.Native.Nat.{ℕ, suc, _^_, _≤_, _<_}
+use native.Mathlib.Omega.{arith}
+use lib.Dec.{ltb}
+use borrow.Author.Tests.{lt-ltb, le-ltb}
+use Rattle.model.specs.Room.{Room, noRoom}
+use Rattle.building.specs.declared.sites.Counts.{Counts}
+use Rattle.building.specs.declared.sites.Places.{Places}
+use Rattle.building.specs.Sites.{isNew, isNewChain, lackOf, oneMore}
+
+-- ---- one more
+module _ (n : ℕ) where
+  pub none-more : (more : Bool) → more ≡ false → oneMore more n ≡ n
+  unfolding oneMore
+  none-more more e = ap (λ (t : Bool). cond (t && ltb n 18446744073709551615) (suc n) n) e
+
+  pub greatest : (more : Bool) → 18446744073709551615 ≤ n → oneMore more n ≡ n
+  unfolding oneMore
+  greatest true h = ap (λ (t : Bool). cond t (suc n) n) (le-ltb n 18446744073709551615 h)
+  greatest false h = refl
+
+  pub one-more : (more : Bool) → more ≡ true → n < 18446744073709551615 → oneMore more n ≡ suc n
+  unfolding oneMore
+  one-more more e h =
+      ap (λ (t : Bool). cond (t && ltb n 18446744073709551615) (suc n) n) e ∙ ap (λ (t : Bool). cond t (suc n) n) (lt-ltb n 18446744073709551615 h)
+
+  pub more-counted : (more : Bool) → suc n < 2 ^ 64 → oneMore more n ≡ cond more (suc n) n
+  more-counted true h = one-more true refl (omega arith)
+  more-counted false h = none-more false refl
+
+-- ---- what lacks room
+module _ (room : Room) (c : Counts) (p : Places) where
+  abbrev pub noChain : Bool
+  noChain = noRoom (isNewChain c p) (room .chains) (c .chains)
+
+  abbrev pub noResidue : Bool
+  noResidue = noRoom (isNew (p .residue)) (room .residues) (c .residues)
+
+  abbrev pub noAtom : Bool
+  noAtom = noRoom (isNew (p .atom)) (room .atoms) (c .atoms)
+
+  pub lacks-chain : noChain ≡ true → lackOf room c p ≡ 1
+  unfolding lackOf
+  lacks-chain e = ap (λ (t : Bool). cond t 1 (cond noResidue 2 (cond noAtom 3 0))) e
+
+  pub lacks-residue : noChain ≡ false → noResidue ≡ true → lackOf room c p ≡ 2
+  unfolding lackOf
+  lacks-residue e f = ap (λ (t : Bool). cond t 1 (cond noResidue 2 (cond noAtom 3 0))) e ∙ ap (λ (t : Bool). cond t 2 (cond noAtom 3 0)) f
+
+  pub lacks-atom : noChain ≡ false → noResidue ≡ false → noAtom ≡ true → lackOf room c p ≡ 3
+  unfolding lackOf
+  lacks-atom e f g =
+      ap (λ (t : Bool). cond t 1 (cond noResidue 2 (cond noAtom 3 0))) e ∙ ap (λ (t : Bool). cond t 2 (cond noAtom 3 0)) f ∙ ap (λ (t : Bool). cond t 3 0) g
+
+  pub lacks-none : noChain ≡ false → noResidue ≡ false → noAtom ≡ false → lackOf room c p ≡ 0
+  unfolding lackOf
+  lacks-none e f g =
+      ap (λ (t : Bool). cond t 1 (cond noResidue 2 (cond noAtom 3 0))) e ∙ ap (λ (t : Bool). cond t 2 (cond noAtom 3 0)) f ∙ ap (λ (t : Bool). cond t 3 0) g
+
+  pub all-have-room : lackOf room c p ≡ 0 → (noChain ≡ false) × (noResidue ≡ false) × (noAtom ≡ false)
+  unfolding lackOf
+  all-have-room = go noChain noResidue noAtom
+    where
+      go : (t u w : Bool) → _≡_ {A = ℕ} (cond t 1 (cond u 2 (cond w 3 0))) 0 → (t ≡ false) × (u ≡ false) × (w ≡ false)
+      go true u w e = absurd (omega arith)
+      go false true w e = absurd (omega arith)
+      go false false true e = absurd (omega arith)
+      go false false false e = (refl, refl, refl)

@@ -1,0 +1,10 @@
+pub mod AtomLaws
+pub mod AtomPlaces
+pub mod ChainLaws
+pub mod ChainsHeld
+pub mod CountLaws
+pub mod MapPlaces
+pub mod ResidueLaws
+pub mod RoomInSlices
+pub mod SiteLaws
+pub mod SliceLaws

@@ -1,0 +1,11 @@
+// The model built in lent records, one slice to a field: step 8 of a row.
+mod atoms;
+mod chains;
+mod residues;
+mod room;
+mod sites;
+
+pub use sites::Counts;
+pub use sites::Put;
+pub use sites::put_site;
+pub use sites::skip_row;
