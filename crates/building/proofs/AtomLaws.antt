@@ -18,7 +18,9 @@ use Rattle.records.proofs.PlaceLaws.{getD-any}
 use Rattle.model.specs.Fold.{Atom, atomOf, greater}
 use Rattle.model.specs.Map.{Entry, Map, put, Ascending}
 use Rattle.model.proofs.MapLaws.{ascending-put}
-use Rattle.building.specs.Holds.{HoldsAtoms, keyPart, namePart, coordinates}
+use Rattle.model.specs.Finished.{keyPart, namePart}
+use Rattle.model.specs.Lent.{coordinates}
+use Rattle.building.specs.Holds.{HoldsAtoms}
 use Rattle.building.specs.Sites.{isNew}
 use Rattle.building.specs.Slices.{newAt, betterAt, outdoes}
 use Rattle.building.proofs.MapPlaces.{keys, past, there, new, field-ins, field-set}

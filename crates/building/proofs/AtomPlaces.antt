@@ -13,7 +13,7 @@ use Rattle.records.proofs.OrderLaws.{below-first, below-not, below-second}
 use Rattle.model.specs.Keys.{atomPlace}
 use Rattle.model.specs.Map.{Entry, Map}
 use Rattle.model.proofs.ListLaws.{same-test}
-use Rattle.building.specs.Holds.{keyPart, namePart}
+use Rattle.model.specs.Finished.{keyPart, namePart}
 use Rattle.building.proofs.MapPlaces.{keys}
 
 abbrev pub split : ℕ → ℕ × ℕ

@@ -5,7 +5,8 @@ use Prim.Native.Nat.{ℕ, suc, _^_, _≤_, _<_}
 use native.Mathlib.Omega.{arith}
 use lib.Dec.{ltb}
 use borrow.Author.Tests.{lt-ltb, le-ltb}
-use Rattle.model.specs.Room.{Room, noRoom}
+use Rattle.model.specs.declared.room.Room.{Room}
+use Rattle.model.specs.Room.{noRoom}
 use Rattle.building.specs.declared.sites.Counts.{Counts}
 use Rattle.building.specs.declared.sites.Places.{Places}
 use Rattle.building.specs.Sites.{isNew, isNewChain, lackOf, oneMore}

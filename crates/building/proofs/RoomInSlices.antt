@@ -1,8 +1,8 @@
 -- Something new has room in every slice where it has room in the shortest, and no slice becomes longer or shorter.
-use mathlib.Core.Path.{_≡_, refl, sym, ap, _∙_}
+use mathlib.Core.Path.{_≡_, refl, sym, ap, _∙_, subst}
 use mathlib.Core.Bool.{Bool, true, false, cond, _&&_}
 use mathlib.Core.List.{List}
-use Prim.Native.Nat.{ℕ, suc, _≤_, _<_, min}
+use Prim.Native.Nat.{ℕ, suc, _≤_, _<_}
 use native.Mathlib.Omega.{arith}
 use lib.Dec.{leb}
 use lib.ListN.{length, length-set}
@@ -11,10 +11,11 @@ use Rattle.rows.specs.declared.rules.Site.{Site}
 use Rattle.records.specs.declared.places.Place.{Place}
 use Rattle.records.specs.declared.places.Place.the-variants.{At, Before}
 use Rattle.records.proofs.InsertionLaws.{length-inserted}
+use Rattle.model.specs.declared.room.Room.{Room}
 use Rattle.model.specs.Room.{noRoom}
 use Rattle.building.specs.declared.sites.Counts.{Counts}
 use Rattle.building.specs.declared.sites.Places.{Places}
-use Rattle.building.specs.Holds.{Records, roomOf}
+use Rattle.building.specs.Holds.{Records, Within, SameLengths}
 use Rattle.building.specs.Sites.{placed}
 use Rattle.building.specs.Slices.{newAt, betterAt}
 
@@ -29,40 +30,19 @@ module _ (new : Bool) (room n : ℕ) where
       go true t = room-beside e t
       go false t = h
 
-min-both : (n a b : ℕ) → n < min a b → (n < a) × (n < b)
-min-both n a b h = (omega arith, omega arith)
-
 -- ---- the room in each slice
-module _ (r : Records) (n : ℕ) where
-  pub chain-room : n < roomOf r .chains → n < length (r .chains)
-  unfolding roomOf
-  chain-room h = min-both n 4096 (length (r .chains)) h .1
+module _ (room : Room) (r : Records) (w : Within room r) (n : ℕ) where
+  pub chain-room : n < room .chains → n < length (r .chains)
+  chain-room h = omega (arith, w .chains)
 
-  pub residue-room : n < roomOf r .residues → (n < length (r .residueKeys)) × (n < length (r .residueNames)) × (n < length (r .residueMarks))
-  unfolding roomOf
-  residue-room h =
-      let a = min-both n 65536 _ h in
-      let b = min-both n (length (r .residueKeys)) _ (a .1) in
-      let c = min-both n (length (r .residueNames)) (length (r .residueMarks)) (b .1) in
-      (b .0, c .0, c .1)
+  pub residue-room : n < room .residues → (n < length (r .residueKeys)) × (n < length (r .residueNames)) × (n < length (r .residueMarks))
+  residue-room h = let q = w .residues in (omega (arith, q .0), omega (arith, q .1), omega (arith, q .2))
 
-  pub atom-room : n < roomOf r .atoms
+  pub atom-room : n < room .atoms
       → (n < length (r .atomKeys)) × (n < length (r .atomNames)) × (n < length (r .elements)) × (n < length (r .positions)) × (n < length (r .occupancies))
-  unfolding roomOf
   atom-room h =
-      let a = min-both n 1048576 _ h in
-      let b = min-both n (length (r .atomKeys)) _ (a .1) in
-      let c = min-both n (length (r .atomNames)) _ (b .1) in
-      let d = min-both n (length (r .elements)) _ (c .1) in
-      let e = min-both n (length (r .positions)) (length (r .occupancies)) (d .1) in
-      (b .0, c .0, d .0, e .0, e .1)
-
-min-first : (a b : ℕ) → min a b ≤ a
-min-first a b = omega arith
-
-pub sizes : (r : Records) → (roomOf r .chains ≤ 4096) × (roomOf r .residues ≤ 65536) × (roomOf r .atoms ≤ 1048576)
-unfolding roomOf
-sizes r = (min-first 4096 _, min-first 65536 _, min-first 1048576 _)
+      let q = w .atoms in
+      (omega (arith, q .0), omega (arith, q .1), omega (arith, q .2), omega (arith, q .3), omega (arith, q .4))
 
 -- ---- afterwards
 module _ {A : Type 0} (n : ℕ) (v : A) (l : List A) where
@@ -75,20 +55,39 @@ module _ {A : Type 0} (n : ℕ) (v : A) (l : List A) where
   length-better (At i) false = refl
   length-better (Before i) b = length-inserted l n i v
 
-pub room-stays : (r : Records) (c : Counts) (p : Places) (s : Site) → roomOf (placed r c p s) ≡ roomOf r
-unfolding roomOf
-room-stays r c p s =
-    let e0 = length-set (r .chains) (p .chain) (s .chain) in
-    let e1 = length-new (c .residues) (p .key) (r .residueKeys) (p .residue) in
-    let e2 = length-new (c .residues) (s .residue) (r .residueNames) (p .residue) in
-    let e3 = length-new (c .residues) _ (r .residueMarks) (p .residue) in
-    let e4 = length-new (c .atoms) (p .key) (r .atomKeys) (p .atom) in
-    let e5 = length-new (c .atoms) (s .atom) (r .atomNames) (p .atom) in
-    let e6 = length-better (c .atoms) (s .element) (r .elements) (p .atom) _ in
-    let e7 = length-better (c .atoms) _ (r .positions) (p .atom) _ in
-    let e8 = length-better (c .atoms) (s .occupancy) (r .occupancies) (p .atom) _ in
-    λ i. record {
-      chains = min 4096 (e0 i);
-      residues = min 65536 (min (e1 i) (min (e2 i) (e3 i)));
-      atoms = min 1048576 (min (e4 i) (min (e5 i) (min (e6 i) (min (e7 i) (e8 i)))));
+pub lengths-stay : (r : Records) (c : Counts) (p : Places) (s : Site) → SameLengths r (placed r c p s)
+lengths-stay r c p s = record {
+  chains = length-set (r .chains) (p .chain) (s .chain);
+  residueKeys = length-new (c .residues) (p .key) (r .residueKeys) (p .residue);
+  residueNames = length-new (c .residues) (s .residue) (r .residueNames) (p .residue);
+  residueMarks = length-new (c .residues) _ (r .residueMarks) (p .residue);
+  atomKeys = length-new (c .atoms) (p .key) (r .atomKeys) (p .atom);
+  atomNames = length-new (c .atoms) (s .atom) (r .atomNames) (p .atom);
+  elements = length-better (c .atoms) (s .element) (r .elements) (p .atom) _;
+  positions = length-better (c .atoms) _ (r .positions) (p .atom) _;
+  occupancies = length-better (c .atoms) (s .occupancy) (r .occupancies) (p .atom) _;
+}
+
+as-long : {m k : ℕ} (n : ℕ) → m ≡ k → n ≤ k → n ≤ m
+as-long {m} {k} n e h = subst (λ (z : ℕ). n ≤ z) (sym e) h
+
+pub room-stays : (room : Room) (r after : Records) → SameLengths r after → Within room r → Within room after
+room-stays room r after e w =
+    let residues = room .residues in
+    let atoms = room .atoms in
+    record {
+      sizes = w .sizes;
+      chains = as-long (room .chains) (e .chains) (w .chains);
+      residues = (
+        as-long residues (e .residueKeys) (w .residues .0),
+        as-long residues (e .residueNames) (w .residues .1),
+        as-long residues (e .residueMarks) (w .residues .2),
+      );
+      atoms = (
+        as-long atoms (e .atomKeys) (w .atoms .0),
+        as-long atoms (e .atomNames) (w .atoms .1),
+        as-long atoms (e .elements) (w .atoms .2),
+        as-long atoms (e .positions) (w .atoms .3),
+        as-long atoms (e .occupancies) (w .atoms .4),
+      );
     }

@@ -14,16 +14,18 @@ use Rattle.records.specs.declared.places.Place.the-variants.{At, Before}
 use Rattle.records.specs.Places.{pairs, below, Ascending, placeIn}
 use Rattle.records.proofs.PairLaws.{take-pairs, map-pairs}
 use Rattle.model.specs.Chains.{chainPlace, withChain}
+use Rattle.model.specs.Finished.{keyPart, namePart}
 use Rattle.model.specs.Fold.{Atom, State, start, first, greater, outdoneWith, step}
 use Rattle.model.specs.Keys.{residueKey, atomPlace, residueAt, atomAt}
 use Rattle.model.specs.Lists.{count}
 use Rattle.model.specs.Map.{Entry, Map, find, isNone, put}
 use Rattle.model.specs.Proper.{Proper}
-use Rattle.model.specs.Room.{Room, Fits, noRoom, lacking}
+use Rattle.model.specs.declared.room.Room.{Room}
+use Rattle.model.specs.Room.{Fits, noRoom, lacking}
 use Rattle.model.specs.Taken.{skipped, site}
 use Rattle.building.specs.declared.sites.Counts.{Counts}
 use Rattle.building.specs.declared.sites.Places.{Places}
-use Rattle.building.specs.Holds.{Records, HoldsChains, HoldsResidues, HoldsAtoms, Holds, roomOf, keyPart, namePart}
+use Rattle.building.specs.Holds.{Records, Within, HoldsChains, HoldsResidues, HoldsAtoms, Holds}
 use Rattle.building.specs.Sites.{isNew, isNewChain, PlacesFound, lackOf, placed, counted, withSkipped}
 use Rattle.building.specs.Slices.{newAt}
 use Rattle.building.proofs.AtomLaws.{atom-put}
@@ -32,7 +34,7 @@ use Rattle.building.proofs.ChainsHeld.{place-with, chain-is, chain-with
 use Rattle.building.proofs.CountLaws.{more-counted, all-have-room}
 use Rattle.building.proofs.MapPlaces.{keys, keys-ascend, there, new}
 use Rattle.building.proofs.ResidueLaws.{residue-put}
-use Rattle.building.proofs.RoomInSlices.{room-beside, within, chain-room, residue-room, atom-room, sizes, room-stays}
+use Rattle.building.proofs.RoomInSlices.{room-beside, within, chain-room, residue-room, atom-room, lengths-stay, room-stays}
 
 -- a place is new where nothing is found
 new-is : {W : Type 0} (k : ℕ) (f : Option W → W) (m : Map W) (p : Place) → p ≡ placeIn ltb k (keys m) → isNew p ≡ isNone (find k m)
@@ -57,8 +59,9 @@ assumed-within true n rows h = omega arith
 assumed-within false n rows h = omega arith
 
 -- ---- the first model, and a skipped row
-pub start-held : (r : Records) → Holds r (record { chains = 0; residues = 0; atoms = 0; rows = 0; skipped = 0; outdone = 0; assumed = 0 }) start
-start-held r = record {
+pub start-held : (r : Records) (room : Room) → Within room r → Holds r room (record { chains = 0; residues = 0; atoms = 0; rows = 0; skipped = 0; outdone = 0; assumed = 0 }) start
+start-held r room w = record {
+  within = w;
   chains = record { many = refl; distinct = tt; namesHeld = refl };
   residues = record { many = refl; ascending = tt; keysHeld = refl; namesHeld = refl; marksHeld = refl };
   atoms = record { many = refl; ascending = tt; keysHeld = refl; namesHeld = refl; elementsHeld = refl; positionsHeld = refl; occupanciesHeld = refl };
@@ -72,9 +75,10 @@ start-held r = record {
   assumedRows = omega arith;
 }
 
-pub skipped-held : (r : Records) (c : Counts) (st : State) → Holds r c st → suc (st .rows) < 2 ^ 64 → Holds r (withSkipped c) (step st skipped)
+pub skipped-held : (r : Records) (room : Room) (c : Counts) (st : State) → Holds r room c st → suc (st .rows) < 2 ^ 64 → Holds r room (withSkipped c) (step st skipped)
 unfolding step
-skipped-held r c st h few = record {
+skipped-held r room c st h few = record {
+  within = h .within;
   chains = h .chains;
   residues = h .residues;
   atoms = h .atoms;
@@ -88,8 +92,8 @@ skipped-held r c st h few = record {
   assumedRows = omega (arith, h .assumedRows);
 }
 
-module _ (r : Records) (c : Counts) (s : Site) (p : Places) (f : PlacesFound (r .chains) (r .residueKeys) (r .atomKeys) (r .atomNames) c s p)
-    (st : State) (h : Holds r c st) (w : Proper s) where
+module _ (r : Records) (room : Room) (c : Counts) (s : Site) (p : Places) (f : PlacesFound (r .chains) (r .residueKeys) (r .atomKeys) (r .atomNames) c s p)
+    (st : State) (h : Holds r room c st) (w : Proper s) where
   abbrev chains : List ℕ
   chains = withChain (s .chain) (st .chains)
 
@@ -99,7 +103,7 @@ module _ (r : Records) (c : Counts) (s : Site) (p : Places) (f : PlacesFound (r 
 
   small : p .chain ≤ 4096
   small =
-      omega (arith, chain-within (r .chains) (c .chains) (st .chains) (s .chain) (p .chain) (h .chains) (f .chain), h .chains .many, h .fits .chains, sizes r .0)
+      omega (arith, chain-within (r .chains) (c .chains) (st .chains) (s .chain) (p .chain) (h .chains) (f .chain), h .chains .many, h .fits .chains, h .within .sizes .0)
 
   key-is : p .key ≡ residueAt chains s
   unfolding residueAt
@@ -139,10 +143,9 @@ module _ (r : Records) (c : Counts) (s : Site) (p : Places) (f : PlacesFound (r 
       new-is (atomPlace (p .key) (s .atom)) (greater s) (st .atoms) (p .atom) atom-place ∙ ap (λ (k : ℕ). isNone (find k (st .atoms))) atom-is
 
   -- ---- room
-  pub lack-is : lackOf (roomOf r) c p ≡ lacking (roomOf r) st (site s)
+  pub lack-is : lackOf room c p ≡ lacking room st (site s)
   unfolding lackOf lacking
   lack-is =
-      let room = roomOf r in
       let e1 : noRoom (isNewChain c p) (room .chains) (c .chains) ≡ noRoom (leb (length (st .chains)) (chainPlace (s .chain) (st .chains))) (room .chains) (length (st .chains))
       = λ i. noRoom (leb (h .chains .many i) (chain-place i)) (room .chains) (h .chains .many i) in
       let e2 : noRoom (isNew (p .residue)) (room .residues) (c .residues) ≡ noRoom (isNone (find (residueAt chains s) (st .residues))) (room .residues) (length (st .residues))
@@ -152,15 +155,15 @@ module _ (r : Records) (c : Counts) (s : Site) (p : Places) (f : PlacesFound (r 
       λ i. cond (e1 i) 1 (cond (e2 i) 2 (cond (e3 i) 3 0))
 
   -- ---- what is stored
-  module _ (roomy : lackOf (roomOf r) c p ≡ 0) where
-    rooms : (noRoom (isNewChain c p) (roomOf r .chains) (c .chains) ≡ false) × (noRoom (isNew (p .residue)) (roomOf r .residues) (c .residues) ≡ false)
-        × (noRoom (isNew (p .atom)) (roomOf r .atoms) (c .atoms) ≡ false)
-    rooms = all-have-room (roomOf r) c p roomy
+  module _ (roomy : lackOf room c p ≡ 0) where
+    rooms : (noRoom (isNewChain c p) (room .chains) (c .chains) ≡ false) × (noRoom (isNew (p .residue)) (room .residues) (c .residues) ≡ false)
+        × (noRoom (isNew (p .atom)) (room .atoms) (c .atoms) ≡ false)
+    rooms = all-have-room room c p roomy
 
     chains-after : HoldsChains (placed r c p s .chains) (cond (isNewChain c p) (suc (c .chains)) (c .chains)) chains
     chains-after =
         chain-put (r .chains) (c .chains) (st .chains) (s .chain) (p .chain) (h .chains) (f .chain)
-        (λ t. chain-room r (c .chains) (room-beside (isNewChain c p) (roomOf r .chains) (c .chains) (rooms .0) t))
+        (λ t. chain-room room r (h .within) (c .chains) (room-beside (isNewChain c p) (room .chains) (c .chains) (rooms .0) t))
 
     residues-after : HoldsResidues (placed r c p s .residueKeys) (placed r c p s .residueNames) (placed r c p s .residueMarks)
         (cond (isNew (p .residue)) (suc (c .residues)) (c .residues)) (put (residueAt chains s) (first s) (st .residues))
@@ -170,7 +173,7 @@ module _ (r : Records) (c : Counts) (s : Site) (p : Places) (f : PlacesFound (r 
         (cond (isNew (p .residue)) (suc (c .residues)) (c .residues)) (put k (first s) (st .residues)))
         key-is
         (residue-put (r .residueKeys) (r .residueNames) (r .residueMarks) (c .residues) (st .residues) s (p .key) (h .residues) (p .residue) residue-place
-        (λ t. residue-room r (c .residues) (room-beside (isNew (p .residue)) (roomOf r .residues) (c .residues) (rooms .1) t)))
+        (λ t. residue-room room r (h .within) (c .residues) (room-beside (isNew (p .residue)) (room .residues) (c .residues) (rooms .1) t)))
 
     atoms-after : HoldsAtoms (placed r c p s .atomKeys) (placed r c p s .atomNames) (placed r c p s .elements) (placed r c p s .positions) (placed r c p s .occupancies)
         (cond (isNew (p .atom)) (suc (c .atoms)) (c .atoms)) (put (atomAt chains s) (greater s) (st .atoms))
@@ -180,7 +183,7 @@ module _ (r : Records) (c : Counts) (s : Site) (p : Places) (f : PlacesFound (r 
         let q = parts (p .key) (s .atom) (w .atom) in
         let a = placed r c p s in
         let e = atom-put (r .atomKeys) (r .atomNames) (r .elements) (r .positions) (r .occupancies) (c .atoms) (st .atoms) s k (h .atoms) (p .atom) atom-place
-        (λ t. atom-room r (c .atoms) (room-beside (isNew (p .atom)) (roomOf r .atoms) (c .atoms) (rooms .2) t)) in
+        (λ t. atom-room room r (h .within) (c .atoms) (room-beside (isNew (p .atom)) (room .atoms) (c .atoms) (rooms .2) t)) in
         subst (λ (z : ℕ). HoldsAtoms (a .atomKeys) (a .atomNames) (a .elements) (a .positions) (a .occupancies) n (put z (greater s) (st .atoms))) atom-is
         (subst
         (λ (z : ℕ). HoldsAtoms (a .atomKeys) (newAt (p .atom) (c .atoms) z (r .atomNames)) (a .elements) (a .positions) (a .occupancies) n (put k (greater s) (st .atoms)))
@@ -190,20 +193,20 @@ module _ (r : Records) (c : Counts) (s : Site) (p : Places) (f : PlacesFound (r 
         (a .occupancies) n (put k (greater s) (st .atoms)))
         (q .0) e))
 
-    fits-after : Fits (roomOf r) (step st (site s))
+    fits-after : Fits room (step st (site s))
     unfolding step
     fits-after = record {
-      chains = subst (λ (z : ℕ). z ≤ roomOf r .chains) (chains-after .many) (within (isNewChain c p) (roomOf r .chains) (c .chains) (rooms .0) (omega (arith, h .chains .many, h .fits .chains)));
-      residues = subst (λ (z : ℕ). z ≤ roomOf r .residues) (residues-after .many) (within (isNew (p .residue)) (roomOf r .residues) (c .residues) (rooms .1) (omega (arith, h .residues .many, h .fits .residues)));
-      atoms = subst (λ (z : ℕ). z ≤ roomOf r .atoms) (atoms-after .many) (within (isNew (p .atom)) (roomOf r .atoms) (c .atoms) (rooms .2) (omega (arith, h .atoms .many, h .fits .atoms)));
+      chains = subst (λ (z : ℕ). z ≤ room .chains) (chains-after .many) (within (isNewChain c p) (room .chains) (c .chains) (rooms .0) (omega (arith, h .chains .many, h .fits .chains)));
+      residues = subst (λ (z : ℕ). z ≤ room .residues) (residues-after .many) (within (isNew (p .residue)) (room .residues) (c .residues) (rooms .1) (omega (arith, h .residues .many, h .fits .residues)));
+      atoms = subst (λ (z : ℕ). z ≤ room .atoms) (atoms-after .many) (within (isNew (p .atom)) (room .atoms) (c .atoms) (rooms .2) (omega (arith, h .atoms .many, h .fits .atoms)));
     }
 
     -- ---- the theorem
-    pub site-held : suc (st .rows) < 2 ^ 64 → Holds (placed r c p s) (counted c p (s .assumed)) (step st (site s))
+    pub site-held : suc (st .rows) < 2 ^ 64 → Holds (placed r c p s) room (counted c p (s .assumed)) (step st (site s))
     unfolding step
     site-held few =
         let a = placed r c p s in
-        let size = sizes r in
+        let size = h .within .sizes in
         let q0 : c .chains ≤ 4096 = omega (arith, h .chains .many, h .fits .chains, size .0) in
         let q1 : c .residues ≤ 65536 = omega (arith, h .residues .many, h .fits .residues, size .1) in
         let q2 : c .atoms ≤ 1048576 = omega (arith, h .atoms .many, h .fits .atoms, size .2) in
@@ -215,7 +218,8 @@ module _ (r : Records) (c : Counts) (s : Site) (p : Places) (f : PlacesFound (r 
           atoms =
               subst (λ (n : ℕ). HoldsAtoms (a .atomKeys) (a .atomNames) (a .elements) (a .positions) (a .occupancies) n (put (atomAt chains s) (greater s) (st .atoms)))
               (sym (more-counted (c .atoms) (isNew (p .atom)) (omega (arith, q2)))) atoms-after;
-          fits = subst (λ (z : Room). Fits z (step st (site s))) (sym (room-stays r c p s)) fits-after;
+          within = room-stays room r (placed r c p s) (lengths-stay r c p s) (h .within);
+          fits = fits-after;
           rows = more-counted (c .rows) true (omega (arith, h .rows, few)) ∙ ap suc (h .rows);
           skipped = h .skipped;
           outdone =

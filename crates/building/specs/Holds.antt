@@ -1,14 +1,16 @@
 -- Which model the lent slices hold, one slice to a field.
 use mathlib.Core.Path.{_≡_}
-use mathlib.Core.List.{List, [], _∷_, map}
-use Prim.Native.Nat.{ℕ, _≤_, _/_, _%_, _^_, min}
+use mathlib.Core.List.{List, map}
+use Prim.Native.Nat.{ℕ, _≤_}
 use lib.Ieee.{Float}
 use lib.ListN.{length, take}
-use Rattle.rows.specs.declared.rules.Point3.{Point3}
 use Rattle.model.specs.Fold.{Residue, Atom, State}
+use Rattle.model.specs.Finished.{keyPart, namePart}
+use Rattle.model.specs.Lent.{Lent, coordinates}
 use Rattle.model.specs.Lists.{count}
 use Rattle.model.specs.Map.{Entry, Map, Ascending}
-use Rattle.model.specs.Room.{Room, Fits}
+use Rattle.model.specs.declared.room.Room.{Room}
+use Rattle.model.specs.Room.{Fits}
 use Rattle.building.specs.declared.sites.Counts.{Counts}
 use Rattle.building.specs.Slices.{Distinct}
 
@@ -37,27 +39,32 @@ recordsOf chains residueKeys residueNames residueMarks atomKeys atomNames elemen
   occupancies = occupancies;
 }
 
--- the sizes of document 01, and no more than the shortest slice has
-unfoldable pub roomOf : Records → Room
-roomOf r = record {
-  chains = min 4096 (length (r .chains));
-  residues = min 65536 (min (length (r .residueKeys)) (min (length (r .residueNames)) (length (r .residueMarks))));
-  atoms =
-      min 1048576
-      (min (length (r .atomKeys)) (min (length (r .atomNames)) (min (length (r .elements)) (min (length (r .positions)) (length (r .occupancies))))));
-}
+-- the records of the lent slices; while rows are read the HETATM marks stand where the categories will
+abbrev pub recordsIn : Lent → Records
+recordsIn l =
+    recordsOf (l .chains) (l .residueKeys) (l .residueNames) (l .residueCategories) (l .atomKeys) (l .atomNames) (l .elements) (l .positions) (l .occupancies)
+
+-- the room is within the sizes of document 01, and every slice has it
+pub record Within (room : Room) (r : Records) : Type 0 where
+  pub sizes : (room .chains ≤ 4096) × (room .residues ≤ 65536) × (room .atoms ≤ 1048576)
+  pub chains : room .chains ≤ length (r .chains)
+  pub residues : (room .residues ≤ length (r .residueKeys)) × (room .residues ≤ length (r .residueNames)) × (room .residues ≤ length (r .residueMarks))
+  pub atoms : (room .atoms ≤ length (r .atomKeys)) × (room .atoms ≤ length (r .atomNames)) × (room .atoms ≤ length (r .elements))
+      × (room .atoms ≤ length (r .positions)) × (room .atoms ≤ length (r .occupancies))
+
+-- no slice has become longer or shorter
+pub record SameLengths (r after : Records) : Type 0 where
+  pub chains : length (after .chains) ≡ length (r .chains)
+  pub residueKeys : length (after .residueKeys) ≡ length (r .residueKeys)
+  pub residueNames : length (after .residueNames) ≡ length (r .residueNames)
+  pub residueMarks : length (after .residueMarks) ≡ length (r .residueMarks)
+  pub atomKeys : length (after .atomKeys) ≡ length (r .atomKeys)
+  pub atomNames : length (after .atomNames) ≡ length (r .atomNames)
+  pub elements : length (after .elements) ≡ length (r .elements)
+  pub positions : length (after .positions) ≡ length (r .positions)
+  pub occupancies : length (after .occupancies) ≡ length (r .occupancies)
 
 -- ---- the fields
-
--- an atom's place is its residue's key and its name in one number
-abbrev pub keyPart : ℕ → ℕ
-keyPart place = place / 2 ^ 64
-
-abbrev pub namePart : ℕ → ℕ
-namePart place = place % 2 ^ 64
-
-abbrev pub coordinates : Point3 → List Float
-coordinates p = p .x ∷ p .y ∷ p .z ∷ []
 
 -- the first n entries of a slice are a field of the entries of m
 abbrev pub Field : {W A : Type 0} → (Entry W → A) → List A → ℕ → Map W → Type 0
@@ -84,12 +91,13 @@ pub record HoldsAtoms (keys names elements : List ℕ) (positions : List (List F
   pub positionsHeld : Field (λ e. coordinates (e .value .position)) positions n m
   pub occupanciesHeld : Field (λ e. e .value .occupancy) occupancies n m
 
--- the slices and the counts are those of the model, which is within their room
-pub record Holds (r : Records) (c : Counts) (st : State) : Type 0 where
+-- the slices and the counts are those of the model, which is within the room
+pub record Holds (r : Records) (room : Room) (c : Counts) (st : State) : Type 0 where
+  pub within : Within room r
   pub chains : HoldsChains (r .chains) (c .chains) (st .chains)
   pub residues : HoldsResidues (r .residueKeys) (r .residueNames) (r .residueMarks) (c .residues) (st .residues)
   pub atoms : HoldsAtoms (r .atomKeys) (r .atomNames) (r .elements) (r .positions) (r .occupancies) (c .atoms) (st .atoms)
-  pub fits : Fits (roomOf r) st
+  pub fits : Fits room st
   pub rows : c .rows ≡ st .rows
   pub skipped : c .skipped ≡ st .skipped
   pub outdone : c .outdone ≡ st .outdone

@@ -11,15 +11,17 @@ use Rattle.records.specs.declared.places.Place.the-variants.{At, Before}
 use Rattle.records.specs.Places.{Found, pairs, below}
 use Rattle.model.specs.Fold.{State, step}
 use Rattle.model.specs.Keys.{residueKey}
+use Rattle.model.specs.Lent.{coordinates}
 use Rattle.model.specs.Lists.{count}
 use Rattle.model.specs.Proper.{Proper}
-use Rattle.model.specs.Room.{Room, noRoom, lacking}
+use Rattle.model.specs.declared.room.Room.{Room}
+use Rattle.model.specs.Room.{noRoom, lacking}
 use Rattle.model.specs.Taken.{site}
 use Rattle.building.specs.declared.sites.Counts.{Counts}
 use Rattle.building.specs.declared.sites.Places.{Places}
 use Rattle.building.specs.declared.sites.Put.{Put}
 use Rattle.building.specs.declared.sites.Put.the-variants.{NoRoom, Done}
-use Rattle.building.specs.Holds.{Records, Holds, roomOf, coordinates}
+use Rattle.building.specs.Holds.{Records, SameLengths, Holds}
 use Rattle.building.specs.Slices.{ChainFound, newAt, betterAt, outdoes}
 
 -- ---- where it goes
@@ -94,10 +96,11 @@ withSkipped c = record {
 
 -- ---- the whole
 
--- Of any model that the slices and counts held: where the site had no room, that is what it lacked, and nothing has changed; else it lacked none, and
--- they hold the model with the site, if the greatest number is above its count of rows.
-abbrev pub Did : Records → Counts → Site → Put → Records → Type 0
-Did r c s (NoRoom d) after = (after ≡ r) × (0 < d) × ((st : State) → Holds r c st → Proper s → lacking (roomOf r) st (site s) ≡ d)
-Did r c s (Done d) after =
-    (st : State) → Holds r c st → Proper s
-    → (lacking (roomOf r) st (site s) ≡ 0) × (suc (st .rows) < 2 ^ 64 → Holds after d (step st (site s)))
+-- Where the site had no room nothing has changed, and of any model that the slices and counts held that is what it lacked; else no slice is longer or
+-- shorter, and it lacked none, and they hold the model with the site, if the greatest number is above its count of rows.
+abbrev pub Did : Records → Room → Counts → Site → Put → Records → Type 0
+Did r room c s (NoRoom d) after = (after ≡ r) × (0 < d) × ((st : State) → Holds r room c st → Proper s → lacking room st (site s) ≡ d)
+Did r room c s (Done d) after =
+    SameLengths r after
+    × ((st : State) → Holds r room c st → Proper s
+    → (lacking room st (site s) ≡ 0) × (suc (st .rows) < 2 ^ 64 → Holds after room d (step st (site s))))

@@ -2,10 +2,8 @@
 use crate::atoms::put_atom;
 use crate::chains::chain_place;
 use crate::residues::put_residue;
-use crate::room::atom_room;
 use crate::room::has_no_room;
-use crate::room::residue_room;
-use crate::room::smaller;
+use model::Room;
 use records::Place;
 use rows::Point3;
 use rows::Site;
@@ -13,7 +11,8 @@ ghost use mathlib.Core.Path.{_≡_};
 ghost use Prim.Native.Nat.{_≤_};
 ghost use Rattle.model.specs.Keys.{residueKey};
 ghost use Rattle.model.specs.Lists.{count};
-ghost use Rattle.building.specs.Holds.{coordinates, recordsOf};
+ghost use Rattle.model.specs.Lent.{coordinates};
+ghost use Rattle.building.specs.Holds.{recordsOf};
 ghost use Rattle.building.specs.Sites.{isNew, PlacesFound, lackOf, placed, oneMore, counted, withSkipped, Did};
 
 pub struct Counts {
@@ -85,18 +84,18 @@ fn is_new(place: Place) -> bool
     }
 }
 
-fn lack_of(chains: usize, residues: usize, atoms: usize, counts: Counts, places: Places) -> u8
-    ensures { λ r. ⌜ r ≡ lackOf (record { chains = chains; residues = residues; atoms = atoms }) counts places ⌝ }
+fn lack_of(room: Room, counts: Counts, places: Places) -> u8
+    ensures { λ r. ⌜ r ≡ lackOf room counts places ⌝ }
 {
-    if has_no_room(counts.chains <= places.chain, chains, counts.chains) {
+    if has_no_room(counts.chains <= places.chain, room.chains, counts.chains) {
         return 1;
     }
     let residue = places.residue;
-    if has_no_room(is_new(residue), residues, counts.residues) {
+    if has_no_room(is_new(residue), room.residues, counts.residues) {
         return 2;
     }
     let atom = places.atom;
-    if has_no_room(is_new(atom), atoms, counts.atoms) {
+    if has_no_room(is_new(atom), room.atoms, counts.atoms) {
         return 3;
     }
     0
@@ -220,23 +219,15 @@ pub fn put_site(
     elements: &mut [u8],
     positions: &mut [[f64; 3]],
     occupancies: &mut [f64],
+    room: Room,
     counts: Counts,
     site: Site,
 ) -> Put
-    ensures { λ r. ⌜ Did (recordsOf (now (chains .entry)) (now («residue_keys» .entry)) (now («residue_names» .entry)) (now («residue_marks» .entry)) (now («atom_keys» .entry)) (now («atom_names» .entry)) (now (elements .entry)) (now (positions .entry)) (now (occupancies .entry))) counts site r
+    ensures { λ r. ⌜ Did (recordsOf (now (chains .entry)) (now («residue_keys» .entry)) (now («residue_names» .entry)) (now («residue_marks» .entry)) (now («atom_keys» .entry)) (now («atom_names» .entry)) (now (elements .entry)) (now (positions .entry)) (now (occupancies .entry))) room counts site r
         (recordsOf (now (chains .exit)) (now («residue_keys» .exit)) (now («residue_names» .exit)) (now («residue_marks» .exit)) (now («atom_keys» .exit)) (now («atom_names» .exit)) (now (elements .exit)) (now (positions .exit)) (now (occupancies .exit))) ⌝ }
 {
     let places = places_of(chains, residue_keys, atom_keys, atom_names, counts, site);
-    let room = smaller(4096, chains.len());
-    let residues = residue_room(residue_keys.len(), residue_names.len(), residue_marks.len());
-    let atoms = atom_room(
-        atom_keys.len(),
-        atom_names.len(),
-        elements.len(),
-        positions.len(),
-        occupancies.len(),
-    );
-    let lack = lack_of(room, residues, atoms, counts, places);
+    let lack = lack_of(room, counts, places);
     if 0 < lack {
         return Put::NoRoom(lack);
     }

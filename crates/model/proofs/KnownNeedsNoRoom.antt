@@ -12,7 +12,8 @@ use Rattle.model.specs.Keys.{residueAt, atomAt}
 use Rattle.model.specs.Lists.{All}
 use Rattle.model.specs.Map.{find, isNone}
 use Rattle.model.specs.Proper.{Proper}
-use Rattle.model.specs.Room.{Room, lacking}
+use Rattle.model.specs.declared.room.Room.{Room}
+use Rattle.model.specs.Room.{lacking}
 use Rattle.model.specs.Rules.{sameAtom}
 use Rattle.model.specs.Taken.{Taken, site, sites}
 use Rattle.model.proofs.ChainsFirstMet.{Met, with-chain, place-past, all-met}

@@ -1,9 +1,11 @@
+pub mod AscendingLaws
 pub mod BuiltMaps
 pub mod ChainsFirstMet
 pub mod ClassLaws
 pub mod EarliestIsKept
 pub mod EntriesOfRows
 pub mod FiniteOrder
+pub mod FirstEntries
 pub mod FoldKeepsRules
 pub mod FoldParts
 pub mod KeysKeepOrder
@@ -21,4 +23,7 @@ pub mod RoomIsForTheEnd
 pub mod RoomLaws
 pub mod RulesDecide
 pub mod StopsAtTheFirst
+pub mod TerminiLaws
+pub mod WalkLaws
+pub mod WalkTurns
 pub mod WorkedReading

@@ -1,9 +1,9 @@
 -- Tests, filters and members of lists.
 use Prim.{tt}
 use mathlib.Core.Path.{_≡_, refl, sym, ap, _∙_, subst}
-use mathlib.Core.Bool.{Bool, true, false, cond, _&&_, _||_, false≢true, or-true}
+use mathlib.Core.Bool.{Bool, true, false, cond, _&&_, _||_, false≢true, or-true, or-assoc}
 use mathlib.Core.Logic.{_⊎_, inl, inr}
-use mathlib.Core.List.{List, [], _∷_, _++_, List·Memᴰ, List·Memᴰ·head, List·Memᴰ·tail, List·Memᴰ·not-nil, List·Memᴰ·cases-cons}
+use mathlib.Core.List.{List, [], _∷_, _++_, map, List·Memᴰ, List·Memᴰ·head, List·Memᴰ·tail, List·Memᴰ·not-nil, List·Memᴰ·cases-cons}
 use Rattle.model.specs.Lists.{filter, any, All}
 
 -- ---- tests
@@ -70,6 +70,10 @@ module _ {S : Type 0} where
   any-none p [] a = refl
   any-none p (s ∷ l) a = ap (λ (b : Bool). b || any p l) (a .0) ∙ any-none p l (a .1)
 
+  pub any-append : (p : S → Bool) (l m : List S) → any p (l ++ m) ≡ (any p l || any p m)
+  any-append p [] m = refl
+  any-append p (s ∷ l) m = ap (λ (b : Bool). p s || b) (any-append p l m) ∙ sym (or-assoc (p s) (any p l) (any p m))
+
   -- those that fail q fail p too
   pub any-filter : (p q : S → Bool) (l : List S) → All (λ (s : S). q s ≡ false → p s ≡ false) l → any p (filter q l) ≡ any p l
   any-filter p q [] a = refl
@@ -119,3 +123,18 @@ module _ {S : Type 0} where
 
   pub filter-mem : (p : S → Bool) (l : List S) (s : S) → List·Memᴰ s (filter p l) → List·Memᴰ s l × (p s ≡ true)
   filter-mem p l s d = all-at (λ (t : S). List·Memᴰ t l × (p t ≡ true)) (filter p l) s (filter-all (λ (t : S). List·Memᴰ t l) p l (all-of (λ (t : S). List·Memᴰ t l) l (λ t m. m))) d
+
+-- ---- what is made of each
+module _ {S U : Type 0} (f : S → U) (p : U → Bool) where
+  pub any-map : (l : List S) → any p (map f l) ≡ any (λ s. p (f s)) l
+  any-map [] = refl
+  any-map (s ∷ l) = ap (λ (b : Bool). p (f s) || b) (any-map l)
+
+  pub filter-map : (l : List S) → filter p (map f l) ≡ map f (filter (λ s. p (f s)) l)
+  filter-map [] = refl
+  filter-map (s ∷ l) = go (p (f s)) (filter-map l)
+    where
+      go : (b : Bool) → filter p (map f l) ≡ map f (filter (λ s. p (f s)) l)
+          → cond b (f s ∷ filter p (map f l)) (filter p (map f l)) ≡ map f (cond b (s ∷ filter (λ s. p (f s)) l) (filter (λ s. p (f s)) l))
+      go true e = ap (λ (m : List U). f s ∷ m) e
+      go false e = e

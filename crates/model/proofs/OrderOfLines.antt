@@ -7,7 +7,8 @@ use Rattle.model.specs.Alike.{isOf, AlikeLines}
 use Rattle.model.specs.Fold.{State}
 use Rattle.model.specs.Lists.{filter, All}
 use Rattle.model.specs.Proper.{Proper}
-use Rattle.model.specs.Room.{Room, whole, readWithin}
+use Rattle.model.specs.declared.room.Room.{Room}
+use Rattle.model.specs.Room.{whole, readWithin}
 use Rattle.model.specs.Rules.{sameAtom}
 use Rattle.model.specs.Taken.{Taken, skipped, site, sites}
 use Rattle.model.proofs.OrderOfRows.{order-of-rows}

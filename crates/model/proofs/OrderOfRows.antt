@@ -12,7 +12,8 @@ use Rattle.model.specs.Fold.{State, first, greater, start, modelOf}
 use Rattle.model.specs.Keys.{residueAt, atomAt}
 use Rattle.model.specs.Lists.{filter, All, count}
 use Rattle.model.specs.Proper.{Proper}
-use Rattle.model.specs.Room.{Room, Fits, whole, readWithin}
+use Rattle.model.specs.declared.room.Room.{Room}
+use Rattle.model.specs.Room.{Fits, whole, readWithin}
 use Rattle.model.specs.Rules.{sameResidue, sameAtom, firstOf}
 use Rattle.model.specs.Taken.{Taken, sites}
 use Rattle.model.proofs.BuiltMaps.{left, build, same-build}

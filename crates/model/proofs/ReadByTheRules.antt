@@ -5,7 +5,8 @@ use mathlib.Core.List.{List}
 use Rattle.model.specs.Fold.{State}
 use Rattle.model.specs.Lists.{All}
 use Rattle.model.specs.Proper.{Proper}
-use Rattle.model.specs.Room.{Room, Fits, whole, readWithin}
+use Rattle.model.specs.declared.room.Room.{Room}
+use Rattle.model.specs.Room.{Fits, whole, readWithin}
 use Rattle.model.specs.Rules.{Ruled}
 use Rattle.model.specs.Taken.{Taken, sites}
 use Rattle.model.proofs.FoldKeepsRules.{fold-keeps-rules}

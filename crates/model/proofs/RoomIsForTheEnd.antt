@@ -5,7 +5,8 @@ use mathlib.Core.List.{List, [], _∷_}
 use Prim.Native.Nat.{ℕ, zero, suc}
 use native.Mathlib.Omega.{arith}
 use Rattle.model.specs.Fold.{State, start, step, run, modelOf}
-use Rattle.model.specs.Room.{Room, Fits, lacking, whole, stopped, onward, readFrom, readWithin}
+use Rattle.model.specs.declared.room.Room.{Room}
+use Rattle.model.specs.Room.{Fits, lacking, whole, stopped, onward, readFrom, readWithin}
 use Rattle.model.specs.Taken.{Taken}
 use Rattle.model.proofs.RoomLaws.{fits-none, none-fits, fitted-all, fits-start}
 

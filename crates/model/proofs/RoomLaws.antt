@@ -14,7 +14,8 @@ use Rattle.model.specs.Chains.{chainPlace, withChain}
 use Rattle.model.specs.Fold.{State, first, greater, start, step, run}
 use Rattle.model.specs.Keys.{residueAt, atomAt}
 use Rattle.model.specs.Map.{find, put, isNone}
-use Rattle.model.specs.Room.{Room, Fits, noRoom, lacking}
+use Rattle.model.specs.declared.room.Room.{Room}
+use Rattle.model.specs.Room.{Fits, noRoom, lacking}
 use Rattle.model.specs.Taken.{Taken, skipped, site}
 use Rattle.model.proofs.ChainsFirstMet.{length-with}
 use Rattle.model.proofs.MapLaws.{length-put}

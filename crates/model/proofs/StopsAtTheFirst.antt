@@ -6,7 +6,8 @@ use native.Mathlib.Nat.{zero-lt-suc}
 use native.Mathlib.Omega.{arith}
 use lib.ListN.{length}
 use Rattle.model.specs.Fold.{State, start, step, run}
-use Rattle.model.specs.Room.{Room, Fits, lacking, whole, stopped, onward, readFrom, readWithin, StopsAt}
+use Rattle.model.specs.declared.room.Room.{Room}
+use Rattle.model.specs.Room.{Fits, lacking, whole, stopped, onward, readFrom, readWithin, StopsAt}
 use Rattle.model.specs.Taken.{Taken, skipped, site}
 use Rattle.model.proofs.RoomLaws.{fits-none, none-fits, fitted-all, fits-start}
 

@@ -13,7 +13,8 @@ use Rattle.model.specs.Chains.{chainPlace, withChain}
 use Rattle.model.specs.Fold.{step}
 use Rattle.model.specs.Keys.{residueKey, atomPlace, residueAt, atomAt}
 use Rattle.model.specs.Map.{find, put}
-use Rattle.model.specs.Room.{Room, lacking, whole, stopped, readFrom, readWithin}
+use Rattle.model.specs.declared.room.Room.{Room}
+use Rattle.model.specs.Room.{lacking, whole, stopped, readFrom, readWithin}
 use Rattle.model.specs.Taken.{Taken, site}
 
 -- the double nearest 0.6, and 1.0

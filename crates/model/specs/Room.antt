@@ -5,16 +5,12 @@ use mathlib.Core.List.{List, [], _∷_, _++_}
 use Prim.Native.Nat.{ℕ, zero, suc, _≤_, _<_}
 use lib.Dec.{leb}
 use lib.ListN.{length}
+use Rattle.model.specs.declared.room.Room.{Room}
 use Rattle.model.specs.Chains.{chainPlace, withChain}
 use Rattle.model.specs.Fold.{State, start, step, modelOf}
 use Rattle.model.specs.Keys.{residueAt, atomAt}
 use Rattle.model.specs.Map.{find, isNone}
 use Rattle.model.specs.Taken.{Taken, skipped, site}
-
-pub record Room : Type 0 where
-  pub chains : ℕ
-  pub residues : ℕ
-  pub atoms : ℕ
 
 -- the state is within the room
 pub record Fits (room : Room) (st : State) : Type 0 where

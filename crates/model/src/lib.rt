@@ -1,1 +1,17 @@
-// The model that a list of rows gives.
+// The model that rows make. Its definitions and theorems are in specs/ and proofs/; here is what is said of one residue by value.
+mod classes;
+mod room;
+mod termini;
+mod walks;
+
+pub use classes::Class;
+pub use classes::class_of;
+pub use room::Room;
+pub use room::room_of;
+pub use termini::is_polymer;
+pub use termini::position_of;
+pub use walks::chain_part;
+pub use walks::ends_chain;
+pub use walks::is_alone;
+pub use walks::met_with;
+pub use walks::pass_lesser;

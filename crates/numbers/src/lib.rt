@@ -8,3 +8,4 @@ pub use printing::Printed;
 pub use printing::write_thousandths;
 pub use reading::Number;
 pub use reading::read_number;
+pub use rounding::is_printable;

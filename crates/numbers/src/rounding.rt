@@ -13,7 +13,7 @@ const SIGN: u64 = 9223372036854775808;
 const LEADING: u64 = 4503599627370496;
 
 // Whether the double has a text: it is finite, and at most 1,000,000 in magnitude.
-pub(crate) fn is_printable(x: f64) -> bool
+pub fn is_printable(x: f64) -> bool
     ensures { λ r. ⌜ r ≡ printable x ⌝ }
 {
     if x <= 1000000.0 {

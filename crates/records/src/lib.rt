@@ -1,5 +1,6 @@
 // Lent slices kept in order, one slice to a field: an entry put in, stored or looked for, and what is past the entries cleared.
 mod clearing;
+mod entries;
 mod insertion;
 mod places;
 mod storing;
@@ -8,6 +9,9 @@ pub use clearing::clear_f64_from;
 pub use clearing::clear_point_from;
 pub use clearing::clear_u8_from;
 pub use clearing::clear_u64_from;
+pub use entries::f64_at;
+pub use entries::point_at;
+pub use entries::u64_at;
 pub use insertion::insert_f64;
 pub use insertion::insert_point;
 pub use insertion::insert_u8;
@@ -15,6 +19,7 @@ pub use insertion::insert_u64;
 pub use places::Place;
 pub use places::place_of;
 pub use places::place_of_key;
+pub use places::smaller;
 pub use storing::store_f64;
 pub use storing::store_point;
 pub use storing::store_u8;

@@ -12,7 +12,7 @@ pub enum Place {
     Before(usize),
 }
 
-fn smaller(m: usize, n: usize) -> usize
+pub fn smaller(m: usize, n: usize) -> usize
     ensures { λ r. ⌜ r ≡ min m n ⌝ }
 {
     if m < n { m } else { n }

@@ -1,31 +1,25 @@
 -- Each test in turn is that of the definition.
 use mathlib.Core.Path.{_≡_, sym, ap, _∙_}
 use mathlib.Core.Bool.{Bool, true, false}
-use Rattle.model.specs.Room.{Room, noRoom}
+use Rattle.model.specs.Room.{noRoom}
 use Rattle.building.proofs.CountLaws.{noChain, noResidue, noAtom, lacks-chain, lacks-residue, lacks-atom, lacks-none}
 use borrow.Author.Needs.{needs}
 use Rattle.building.proofs.sites.lack_of.Statement.{statement}
 use Rattle.building.proofs.sites.lack_of.Tie as tie
 
 -- what lacks room, as the tests say it
-abbrev Start : Type 0
-Start = tie.Start
-
-abbrev roomAt : Start → Room
-roomAt s = record { chains = s .args .chains; residues = s .args .residues; atoms = s .args .atoms }
-
-chain-test : (p : tie.After-has-no-room) (t : Bool) → p .has-no-room .result ≡ t → noChain (roomAt (p .before .before .before)) (p .before .before .before .args .counts) (p .before .before .before .args .places) ≡ t
+chain-test : (p : tie.After-has-no-room) (t : Bool) → p .has-no-room .result ≡ t → noChain (p .before .before .before .args .room) (p .before .before .before .args .counts) (p .before .before .before .args .places) ≡ t
 chain-test p t e = sym (p .has-no-room .ensures) ∙ e
 
-residue-test : (p : tie.After-has-no-room2) (t : Bool) → p .has-no-room2 .result ≡ t → noResidue (roomAt (p .before .before .before .before .before .before)) (p .before .before .before .before .before .before .args .counts) (p .before .before .before .before .before .before .args .places) ≡ t
+residue-test : (p : tie.After-has-no-room2) (t : Bool) → p .has-no-room2 .result ≡ t → noResidue (p .before .before .before .before .before .before .args .room) (p .before .before .before .before .before .before .args .counts) (p .before .before .before .before .before .before .args .places) ≡ t
 residue-test p t e =
     let a = p .before .before .before .before .before .before .args in
-    sym (p .has-no-room2 .ensures ∙ ap (λ (u : Bool). noRoom u (a .residues) (a .counts .residues)) (p .before .is-new .ensures)) ∙ e
+    sym (p .has-no-room2 .ensures ∙ ap (λ (u : Bool). noRoom u (a .room .residues) (a .counts .residues)) (p .before .is-new .ensures)) ∙ e
 
-atom-test : (p : tie.After-has-no-room3) (t : Bool) → p .has-no-room3 .result ≡ t → noAtom (roomAt (p .before .before .before .before .before .before .before .before .before)) (p .before .before .before .before .before .before .before .before .before .args .counts) (p .before .before .before .before .before .before .before .before .before .args .places) ≡ t
+atom-test : (p : tie.After-has-no-room3) (t : Bool) → p .has-no-room3 .result ≡ t → noAtom (p .before .before .before .before .before .before .before .before .before .args .room) (p .before .before .before .before .before .before .before .before .before .args .counts) (p .before .before .before .before .before .before .before .before .before .args .places) ≡ t
 atom-test p t e =
     let a = p .before .before .before .before .before .before .before .before .before .args in
-    sym (p .has-no-room3 .ensures ∙ ap (λ (u : Bool). noRoom u (a .atoms) (a .counts .atoms)) (p .before .is-new2 .ensures)) ∙ e
+    sym (p .has-no-room3 .ensures ∙ ap (λ (u : Bool). noRoom u (a .room .atoms) (a .counts .atoms)) (p .before .is-new2 .ensures)) ∙ e
 
 has-no-room-requires : tie.Need-has-no-room-requires
 has-no-room-requires c κs = search needs
@@ -33,7 +27,7 @@ has-no-room-requires c κs = search needs
 returns : tie.Need-returns
 returns c =
     let s = c .before .before .before .before in
-    sym (lacks-chain (roomAt s) (s .args .counts) (s .args .places) (chain-test (c .before) true (c .if1 .taken)))
+    sym (lacks-chain (s .args .room) (s .args .counts) (s .args .places) (chain-test (c .before) true (c .if1 .taken)))
 
 is-new-requires : tie.Need-is-new-requires
 is-new-requires c κs = search needs
@@ -44,7 +38,7 @@ has-no-room-requires-2 c κs = search needs
 returns-2 : tie.Need-returns-2
 returns-2 c =
     let s = c .before .before .before .before .before .before .before in
-    sym (lacks-residue (roomAt s) (s .args .counts) (s .args .places) (chain-test (c .before .before .before .before) false (c .before .before .before .if1 .left)) (residue-test (c .before) true (c .if2 .taken)))
+    sym (lacks-residue (s .args .room) (s .args .counts) (s .args .places) (chain-test (c .before .before .before .before) false (c .before .before .before .if1 .left)) (residue-test (c .before) true (c .if2 .taken)))
 
 is-new-requires-2 : tie.Need-is-new-requires-2
 is-new-requires-2 c κs = search needs
@@ -56,14 +50,14 @@ returns-3 : tie.Need-returns-3
 returns-3 c =
     let s = c .before .before .before .before .before .before .before .before .before .before in
     sym
-    (lacks-atom (roomAt s) (s .args .counts) (s .args .places) (chain-test (c .before .before .before .before .before .before .before) false (c .before .before .before .before .before .before .if1 .left)) (residue-test (c .before .before .before .before) false (c .before .before .before .if2 .left))
+    (lacks-atom (s .args .room) (s .args .counts) (s .args .places) (chain-test (c .before .before .before .before .before .before .before) false (c .before .before .before .before .before .before .if1 .left)) (residue-test (c .before .before .before .before) false (c .before .before .before .if2 .left))
     (atom-test (c .before) true (c .if3 .taken)))
 
 returns-4 : tie.Need-returns-4
 returns-4 c =
     let s = c .before .before .before .before .before .before .before .before .before .before in
     sym
-    (lacks-none (roomAt s) (s .args .counts) (s .args .places) (chain-test (c .before .before .before .before .before .before .before) false (c .before .before .before .before .before .before .if1 .left)) (residue-test (c .before .before .before .before) false (c .before .before .before .if2 .left))
+    (lacks-none (s .args .room) (s .args .counts) (s .args .places) (chain-test (c .before .before .before .before .before .before .before) false (c .before .before .before .before .before .before .if1 .left)) (residue-test (c .before .before .before .before) false (c .before .before .before .if2 .left))
     (atom-test (c .before) false (c .if3 .left)))
 
 pub lack-of-spec : {M : Type 1} → statement M

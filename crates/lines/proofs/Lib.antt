@@ -1,0 +1,6 @@
+pub mod DomainLaws
+pub mod LineLaws
+pub mod LinesAreText
+pub mod LinesFitTheText
+pub mod NoneOutside
+pub mod OneLine

@@ -1,0 +1,115 @@
+-- The lent slices, one to a field, and the model in them: chains, residues and atoms from the front, zeros past the counts.
+use mathlib.Core.List.{List, [], _∷_, _++_, map}
+use Prim.Native.Nat.{ℕ, zero, suc, _-_, min}
+use lib.Ieee.{Float}
+use lib.ListN.{length, getD, take, replicate}
+use Rattle.rows.specs.declared.rules.Point3.{Point3}
+use Rattle.records.specs.Clearing.{zeroFloat, zeroPoint}
+use Rattle.model.specs.declared.room.Room.{Room}
+use Rattle.model.specs.Records.{ResidueRecord, AtomRecord, Model}
+
+pub record Lent : Type 0 where
+  pub chains : List ℕ
+  pub residueKeys : List ℕ
+  pub residueNames : List ℕ
+  pub residueCodes : List ℕ
+  pub residueCategories : List ℕ
+  pub residuePositions : List ℕ
+  pub atomKeys : List ℕ
+  pub atomNames : List ℕ
+  pub elements : List ℕ
+  pub positions : List (List Float)
+  pub occupancies : List Float
+
+abbrev pub lentOf : List ℕ → List ℕ → List ℕ → List ℕ → List ℕ → List ℕ → List ℕ → List ℕ → List ℕ → List (List Float) → List Float → Lent
+lentOf chains residueKeys residueNames residueCodes residueCategories residuePositions atomKeys atomNames elements positions occupancies = record {
+  chains = chains;
+  residueKeys = residueKeys;
+  residueNames = residueNames;
+  residueCodes = residueCodes;
+  residueCategories = residueCategories;
+  residuePositions = residuePositions;
+  atomKeys = atomKeys;
+  atomNames = atomNames;
+  elements = elements;
+  positions = positions;
+  occupancies = occupancies;
+}
+
+-- the sizes of document 01, and no more than the shortest slice has
+unfoldable pub roomOf : Lent → Room
+roomOf l = record {
+  chains = min 4096 (length (l .chains));
+  residues =
+      min 65536
+      (min (length (l .residueKeys))
+      (min (length (l .residueNames)) (min (length (l .residueCodes)) (min (length (l .residueCategories)) (length (l .residuePositions))))));
+  atoms =
+      min 1048576
+      (min (length (l .atomKeys)) (min (length (l .atomNames)) (min (length (l .elements)) (min (length (l .positions)) (length (l .occupancies))))));
+}
+
+-- ---- the model in the slices
+
+abbrev pub coordinates : Point3 → List Float
+coordinates p = p .x ∷ p .y ∷ p .z ∷ []
+
+abbrev pub pointOf : List Float → Point3
+pointOf l = record { x = getD l 0 zeroFloat; y = getD l 1 zeroFloat; z = getD l 2 zeroFloat }
+
+-- the records at an index
+abbrev pub residueIn : Lent → ℕ → ResidueRecord
+residueIn l i = record {
+  key = getD (l .residueKeys) i 0;
+  name = getD (l .residueNames) i 0;
+  code = getD (l .residueCodes) i 0;
+  category = getD (l .residueCategories) i 0;
+  position = getD (l .residuePositions) i 0;
+}
+
+abbrev pub atomIn : Lent → ℕ → AtomRecord
+atomIn l i = record {
+  key = getD (l .atomKeys) i 0;
+  name = getD (l .atomNames) i 0;
+  element = getD (l .elements) i 0;
+  position = pointOf (getD (l .positions) i zeroPoint);
+  occupancy = getD (l .occupancies) i zeroFloat;
+}
+
+-- what stands at i, at the next, and so on: n of them
+unfoldable pub listFrom : {A : Type 0} → (ℕ → A) → ℕ → ℕ → List A
+listFrom at i zero = []
+listFrom at i (suc n) = at i ∷ listFrom at (suc i) n
+
+-- so many chains, residues and atoms
+unfoldable pub modelIn : Lent → ℕ → ℕ → ℕ → Model
+modelIn l chains residues atoms = record {
+  chains = take chains (l .chains);
+  residues = listFrom (residueIn l) 0 residues;
+  atoms = listFrom (atomIn l) 0 atoms;
+}
+
+-- ---- the slices of a model
+
+-- a list in a slice of n entries, zeros after it
+unfoldable pub padded : {A : Type 0} → A → ℕ → List A → List A
+padded z n l = l ++ replicate (n - length l) z
+
+-- the slices, as long as they are, with a model in them
+unfoldable pub holding : Lent → Model → Lent
+holding l m = record {
+  chains = padded 0 (length (l .chains)) (m .chains);
+  residueKeys = padded 0 (length (l .residueKeys)) (map (λ r. r .key) (m .residues));
+  residueNames = padded 0 (length (l .residueNames)) (map (λ r. r .name) (m .residues));
+  residueCodes = padded 0 (length (l .residueCodes)) (map (λ r. r .code) (m .residues));
+  residueCategories = padded 0 (length (l .residueCategories)) (map (λ r. r .category) (m .residues));
+  residuePositions = padded 0 (length (l .residuePositions)) (map (λ r. r .position) (m .residues));
+  atomKeys = padded 0 (length (l .atomKeys)) (map (λ a. a .key) (m .atoms));
+  atomNames = padded 0 (length (l .atomNames)) (map (λ a. a .name) (m .atoms));
+  elements = padded 0 (length (l .elements)) (map (λ a. a .element) (m .atoms));
+  positions = padded zeroPoint (length (l .positions)) (map (λ a. coordinates (a .position)) (m .atoms));
+  occupancies = padded zeroFloat (length (l .occupancies)) (map (λ a. a .occupancy) (m .atoms));
+}
+
+abbrev pub emptyModel : Model
+emptyModel = record { chains = []; residues = []; atoms = [] }

@@ -1,0 +1,53 @@
+// The room for chains, residues and atoms: the sizes of document 01, and no more than the shortest slice has.
+use records::smaller;
+ghost use mathlib.Core.Path.{_≡_};
+ghost use Prim.Native.Nat.{min};
+ghost use Rattle.model.specs.Lent.{lentOf, roomOf};
+
+pub struct Room {
+    pub chains: usize,
+    pub residues: usize,
+    pub atoms: usize,
+}
+
+fn smallest(a: usize, b: usize, c: usize, d: usize, e: usize) -> usize
+    ensures { λ r. ⌜ r ≡ min a (min b (min c (min d e))) ⌝ }
+{
+    smaller(a, smaller(b, smaller(c, smaller(d, e))))
+}
+
+pub fn room_of(
+    chains: &[u64],
+    residue_keys: &[u64],
+    residue_names: &[u64],
+    residue_codes: &[u8],
+    residue_categories: &[u8],
+    residue_positions: &[u8],
+    atom_keys: &[u64],
+    atom_names: &[u64],
+    elements: &[u8],
+    positions: &[[f64; 3]],
+    occupancies: &[f64],
+) -> Room
+    ensures { λ r. ⌜ r ≡ roomOf (lentOf (now (chains .entry)) (now («residue_keys» .entry)) (now («residue_names» .entry)) (now («residue_codes» .entry)) (now («residue_categories» .entry)) (now («residue_positions» .entry)) (now («atom_keys» .entry)) (now («atom_names» .entry)) (now (elements .entry)) (now (positions .entry)) (now (occupancies .entry))) ⌝ }
+{
+    let residues = smallest(
+        residue_keys.len(),
+        residue_names.len(),
+        residue_codes.len(),
+        residue_categories.len(),
+        residue_positions.len(),
+    );
+    let atoms = smallest(
+        atom_keys.len(),
+        atom_names.len(),
+        elements.len(),
+        positions.len(),
+        occupancies.len(),
+    );
+    Room {
+        chains: smaller(4096, chains.len()),
+        residues: smaller(65536, residues),
+        atoms: smaller(1048576, atoms),
+    }
+}

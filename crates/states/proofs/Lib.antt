@@ -1,0 +1,2 @@
+pub mod FirstToken
+pub mod HeadersFit
