@@ -4,8 +4,9 @@ use mathlib.Core.List.{List, [], _∷_}
 use mathlib.Core.Bool.{Bool, true, false, _&&_, _||_, cond, false≢true}
 use Prim.Native.Nat.{ℕ}
 use lib.Dec.{eqb}
-use Rattle.ascii.specs.Bytes.{first}
-use Rattle.lines.specs.Domain.{isTextByte, inDomain, every}
+use Rattle.ascii.specs.Bytes.{first, isTextByte}
+use Rattle.ascii.specs.Lists.{every}
+use Rattle.lines.specs.Domain.{inDomain}
 use Rattle.lines.specs.Lines.{onto, linesOf}
 
 -- each line has only such bytes

@@ -2,14 +2,10 @@
 use Prim.Native.Nat.{ℕ, _+_}
 use mathlib.Core.Bool.{Bool, true, _&&_, _||_, cond}
 use mathlib.Core.List.{List, [], _∷_}
-use lib.Dec.{eqb, leb}
-use Rattle.ascii.specs.Bytes.{first}
+use lib.Dec.{eqb}
+use Rattle.ascii.specs.Bytes.{first, isTextByte}
 use Rattle.lines.specs.declared.domain.Outside.{Outside}
 use Rattle.lines.specs.declared.domain.Outside.the-variants.{None, At}
-
--- 9 or 32 to 126: what a line may hold
-abbrev pub isTextByte : ℕ → Bool
-isTextByte b = eqb b 9 || (leb 32 b && leb b 126)
 
 -- b may stand in a text, next being the byte after it
 abbrev pub isAllowed : ℕ → ℕ → Bool
@@ -18,11 +14,6 @@ isAllowed b next = isTextByte b || (eqb b 10 || (eqb b 13 && eqb next 10))
 unfoldable pub inDomain : List ℕ → Bool
 inDomain [] = true
 inDomain (b ∷ bs) = isAllowed b (first bs) && inDomain bs
-
--- each one passes
-abbrev pub every : {S : Type 0} → (S → Bool) → List S → Bool
-every test [] = true
-every test (s ∷ l) = test s && every test l
 
 -- ---- the first byte outside
 

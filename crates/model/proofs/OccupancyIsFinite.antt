@@ -1,5 +1,4 @@
 -- The occupancy of a row that is kept is finite: it is the double nearest to a decimal, or 1.
-use Prim.{Unit}
 use mathlib.Core.Path.{_≡_, sym, subst}
 use mathlib.Core.Logic.{inl, inr}
 use mathlib.Core.Bool.{Bool, true, false, cond}
@@ -16,17 +15,14 @@ use Rattle.tokens.specs.Tokens.{tokenAt}
 use Rattle.tokens.specs.Words.{isMissing}
 use Rattle.rows.specs.declared.columns.Columns.{Columns}
 use Rattle.rows.specs.declared.fields.Coordinate.the-variants.{Missing, Given}
-use Rattle.rows.specs.declared.fields.Fields.{Fields}
-use Rattle.rows.specs.declared.rules.Point3.{Point3}
-use Rattle.rows.specs.declared.rules.Refusal.the-variants.{NameTooLong}
-use Rattle.rows.specs.declared.rules.Row.{Row}
-use Rattle.rows.specs.declared.rules.Row.the-variants.{Refused, Skipped, Kept}
+use Rattle.rows.specs.declared.rules.Row.the-variants.{Kept}
 use Rattle.rows.specs.declared.rules.Site.{Site}
 use Rattle.rows.specs.Columns.{isAbsent}
 use Rattle.rows.specs.Columns as columns
 use Rattle.rows.specs.Fields.{coordinateOf, occupancyAt, fieldsOf}
-use Rattle.rows.specs.Rules.{one, tooLong, siteOf, named, rowOf}
-use Rattle.rows.proofs.RowCases.{IsOccupancy, row-is}
+use Rattle.rows.specs.Rules.{one, rowOf}
+use Rattle.rows.proofs.RowCases.{IsOccupancy}
+use Rattle.rows.proofs.RowsKept.{kept-only}
 use Rattle.model.specs.Proper.{Finite}
 
 -- ---- what is read is finite
@@ -42,7 +38,7 @@ value-finite token x e = nearest-finite _ _ _ _ x (value-is-nearest token x e .n
 not-given : {n : Number} {A : Type 0} → Missing ≡ Given n → A
 not-given e = let z : _≡_ {A = ℕ} 0 1 = cc in absurd (omega arith)
 
-given-number : (token : List ℕ) (n : Number) → coordinateOf token ≡ Given n → numberOf token ≡ n
+pub given-number : (token : List ℕ) (n : Number) → coordinateOf token ≡ Given n → numberOf token ≡ n
 given-number token n = go (isMissing token)
   where
     go : (t : Bool) → cond t Missing (Given (numberOf token)) ≡ Given n → numberOf token ≡ n
@@ -57,22 +53,6 @@ occupancy-number line column n = go (isAbsent column)
     go true e = not-given e
     go false e = given-number (tokenAt line column) n e
 
--- ---- what is kept has it
-abbrev IfKept : Row → Type 0
-IfKept (Refused r) = Unit {0}
-IfKept Skipped = Unit {0}
-IfKept (Kept s) = Finite (s .occupancy)
-
-named-finite : (f : Fields) (position : Point3) (o : Float) (assumed : Bool) → Finite o → IfKept (named f position o assumed)
-unfolding named
-named-finite f position o assumed h = go (tooLong (f .atom)) (tooLong (f .residue)) (tooLong (f .chain))
-  where
-    go : (t u v : Bool) → IfKept (cond t (Refused (NameTooLong 1)) (cond u (Refused (NameTooLong 2)) (cond v (Refused (NameTooLong 3)) (Kept (siteOf f position o assumed)))))
-    go true u v = tt
-    go false true v = tt
-    go false false true = tt
-    go false false false = h
-
 one-finite : Finite one
 unfolding ofBits
 one-finite = tt
@@ -80,8 +60,7 @@ one-finite = tt
 -- ---- the theorem
 pub occupancy-is-finite : (c : Columns) (line : List ℕ) (s : Site) → rowOf (fieldsOf c line) ≡ Kept s → Finite (s .occupancy)
 unfolding fieldsOf
-occupancy-is-finite c line s e =
-    subst IfKept e (row-is IfKept (λ r. tt) (fieldsOf c line) (λ position o assumed h. named-finite (fieldsOf c line) position o assumed (finite o h)) tt)
+occupancy-is-finite c line s e = finite (s .occupancy) (kept-only (fieldsOf c line) s e .read .occupancy)
   where
     finite : (o : Float) → IsOccupancy (fieldsOf c line .occupancy) o → Finite o
     finite o (inl h) = subst Finite (sym h) one-finite

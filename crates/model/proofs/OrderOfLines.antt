@@ -3,7 +3,7 @@ use mathlib.Core.Path.{_≡_, refl, sym, ap, _∙_}
 use mathlib.Core.Bool.{Bool, true, false, cond}
 use mathlib.Core.List.{List, [], _∷_, map}
 use Rattle.rows.specs.declared.rules.Site.{Site}
-use Rattle.model.specs.Alike.{isOf, AlikeLines}
+use Rattle.model.specs.Alike.{Alike, isOf, AlikeLines}
 use Rattle.model.specs.Fold.{State}
 use Rattle.model.specs.Lists.{filter, All}
 use Rattle.model.specs.Proper.{Proper}
@@ -29,12 +29,15 @@ module _ {Line : Type 0} (rowOf : Line → Taken) where
           at true = ap (λ (n : List Site). u ∷ n) h ∙ ap (λ (r : Taken). sites (r ∷ map rowOf (filter (λ x. isOf s (rowOf x)) t))) (sym e)
           at false = h
 
-  -- ---- the theorem
-  pub order-of-lines : (t u : List Line) → AlikeLines rowOf t u → All Proper (sites (map rowOf t))
-      → (room : Room) (st : State) → readWithin room (map rowOf t) ≡ whole st → readWithin room (map rowOf u) ≡ whole st
-  order-of-lines t u a = order-of-rows (map rowOf t) (map rowOf u) (record {
+  pub rows-alike : (t u : List Line) → AlikeLines rowOf t u → Alike (map rowOf t) (map rowOf u)
+  rows-alike t u a = record {
     atoms = λ s. rows-of-lines s t ∙ ap (λ (n : List Line). sites (map rowOf n)) (a .atoms s) ∙ sym (rows-of-lines s u);
     chains = a .chains;
     residues = a .residues;
     skipped = a .skipped;
-  })
+  }
+
+  -- ---- the theorem
+  pub order-of-lines : (t u : List Line) → AlikeLines rowOf t u → All Proper (sites (map rowOf t))
+      → (room : Room) (st : State) → readWithin room (map rowOf t) ≡ whole st → readWithin room (map rowOf u) ≡ whole st
+  order-of-lines t u a = order-of-rows (map rowOf t) (map rowOf u) (rows-alike t u a)

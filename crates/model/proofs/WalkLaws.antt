@@ -49,7 +49,7 @@ module _ {S : Type 0} (P : S → Type 0) (place k : S → ℕ) (keeps : (s t : S
   rising-after s [] p a = tt
   rising-after s (t ∷ l) p a = let b = ascends-all place s (t ∷ l) a in (keeps s t (p .0) (b .0 .0), rising-after t l (p .1) (b .1))
 
-  rising-by : (l : List S) → All P l → ascends (map place l) ≡ true → Rising (map k l)
+  pub rising-by : (l : List S) → All P l → ascends (map place l) ≡ true → Rising (map k l)
   rising-by [] p a = tt
   rising-by (s ∷ l) p a = (omega arith, rising-after s l (p .1) a)
 

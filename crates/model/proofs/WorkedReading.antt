@@ -18,13 +18,13 @@ use Rattle.model.specs.Room.{lacking, whole, stopped, readFrom, readWith
 use Rattle.model.specs.Taken.{Taken, site}
 
 -- the double nearest 0.6, and 1.0
-abbrev six-tenths : Float
+abbrev pub six-tenths : Float
 six-tenths = ofBits binary64 0x3fe3_3333_3333_3333
 
-abbrev one : Float
+abbrev pub one : Float
 one = ofBits binary64 0x3ff0_0000_0000_0000
 
-abbrev name : String → ℕ
+abbrev pub name : String → ℕ
 name s = packed (bytes s)
 
 abbrev room : ℕ → ℕ → ℕ → Room
@@ -59,7 +59,7 @@ module _ (p q r : Point3) where
     assumed = true;
   })
 
-  abbrev case : List Taken
+  abbrev pub case : List Taken
   case = ca p ∷ ca q ∷ o ∷ []
 
   pub whole-case : readWithin (room 1 2 2) case ≡ whole (record {

@@ -4,7 +4,8 @@ use mathlib.Core.List.{List, [], _∷_, map}
 use Prim.Native.Nat.{ℕ, _%_}
 use lib.Dec.{eqb, leb, ltb}
 use lib.ListN.{length}
-use Rattle.ascii.specs.Bytes.{bytes}
+use Rattle.ascii.specs.Bytes.{bytes, isTextByte}
+use Rattle.ascii.specs.Lists.{every}
 use Rattle.names.specs.Packing.{packed, unpacked}
 use Rattle.names.specs.Places.{ascends}
 use Rattle.numbers.specs.Rounding.{printable}
@@ -17,10 +18,6 @@ use Rattle.model.specs.Records.{ResidueRecord, AtomRecord, Model}
 use Rattle.model.specs.Termini.{chainPart, ruledPosition}
 
 -- ---- lists
-
-abbrev pub every : {S : Type 0} → (S → Bool) → List S → Bool
-every p [] = true
-every p (s ∷ l) = p s && every p l
 
 abbrev pub sameList : List ℕ → List ℕ → Bool
 sameList [] [] = true
@@ -43,10 +40,6 @@ differ [] = true
 differ (x ∷ l) = not (any (eqb x) l) && differ l
 
 -- ---- names, codes, coordinates
-
--- 9 or 32 to 126
-unfoldable pub isTextByte : ℕ → Bool
-isTextByte b = eqb b 9 || (leb 32 b && leb b 126)
 
 -- 1 to 8 bytes, each 9 or 32 to 126
 unfoldable pub isName : ℕ → Bool

@@ -1,5 +1,6 @@
 pub mod CellTurns
 pub mod CodesAreInverse
+pub mod ElementsAtMost118
 pub mod PackingIsOneToOne
 pub mod PackingKeepsOrder
 pub mod PackingTurns

@@ -12,3 +12,4 @@ pub mod PrintingLaws
 pub mod ReadingLaws
 pub mod RoundingLaws
 pub mod ValueIsNearest
+pub mod ValueIsPrintable

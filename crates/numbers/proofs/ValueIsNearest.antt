@@ -21,7 +21,7 @@ use Rattle.numbers.proofs.ReadingLaws.{empty}
 no-outside : (x : Float) → OutsideGrammar ≡ Value x → ⊥
 no-outside x e = let z : _≡_ {A = ℕ} 0 1 = cc in omega arith
 
-no-beyond : (x : Float) → BeyondReach ≡ Value x → ⊥
+pub no-beyond : (x : Float) → BeyondReach ≡ Value x → ⊥
 no-beyond x e = let z : _≡_ {A = ℕ} 0 1 = cc in omega arith
 
 same-value : (x y : Float) → Value x ≡ Value y → x ≡ y
@@ -29,7 +29,7 @@ same-value x y e = cc
 
 -- ---- a decimal that has a value
 module _ (negative : Bool) (whole places exponent : List ℕ) where
-  reachable : T (withinReach whole places exponent) → (length exponent ≡ 0) × (allTogether whole places ≤ 1000000 * 10 ^ length places)
+  pub reachable : T (withinReach whole places exponent) → (length exponent ≡ 0) × (allTogether whole places ≤ 1000000 * 10 ^ length places)
   unfolding withinReach
   reachable t =
       let A = eqb (length exponent) 0 in

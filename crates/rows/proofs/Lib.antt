@@ -8,3 +8,4 @@ pub mod RowCases
 pub mod RowsKept
 pub mod RowsSkipped
 pub mod TokensFitTheLine
+pub mod WholeRowsReach

@@ -1,6 +1,6 @@
 -- What holds of every refusal and of whatever step 7 gives holds of every row that is not skipped: the steps before it only refuse, or hand on. The
--- occupancy that they hand on is the one that is given, or 1.
-use mathlib.Core.Path.{_≡_, refl}
+-- position that they hand on is the one that is given, and so is the occupancy, or it is 1.
+use mathlib.Core.Path.{_≡_, refl, ap, _∙_}
 use mathlib.Core.Logic.{_⊎_, inl, inr}
 use mathlib.Core.Bool.{Bool}
 use Prim.Native.Nat.{ℕ}
@@ -22,6 +22,17 @@ use Rattle.rows.specs.Rules.{one, named, byOccupancy, occupied, axisOf, 
 abbrev pub IsOccupancy : Coordinate → Float → Type 0
 IsOccupancy c o = (o ≡ one) ⊎ (c ≡ Given (number.Value o))
 
+abbrev AreValues : Number → Number → Number → Point3 → Type 0
+AreValues x y z position = (x ≡ number.Value (position .x)) × (y ≡ number.Value (position .y)) × (z ≡ number.Value (position .z))
+
+-- all that steps 1 to 6 ask
+pub record Read (f : Fields) (position : Point3) (o : Float) : Type 0 where
+  pub reach : f .reach ≡ Whole
+  pub x : f .x ≡ Given (number.Value (position .x))
+  pub y : f .y ≡ Given (number.Value (position .y))
+  pub z : f .z ≡ Given (number.Value (position .z))
+  pub occupancy : IsOccupancy (f .occupancy) o
+
 module _ (P : Row → Type 0) (refused : (r : Refusal) → P (Refused r)) where
   by-occupancy : (c : Coordinate) (row : Float → Bool → Row) → ((o : Float) (assumed : Bool) → IsOccupancy c o → P (row o assumed)) → P (byOccupancy c row)
   by-occupancy Missing row h = h one _ (inl refl)
@@ -29,27 +40,32 @@ module _ (P : Row → Type 0) (refused : (r : Refusal) → P (Refused r)) where
   by-occupancy (Given number.BeyondReach) row h = refused (refusal.BeyondReach 4)
   by-occupancy (Given (number.Value v)) row h = h v _ (inr refl)
 
-  by-axis : (k : ℕ) (n : Number) (row : Float → Row) → ((v : Float) → P (row v)) → P (byAxis (axisOf k n) row)
+  by-axis : (k : ℕ) (n : Number) (row : Float → Row) → ((v : Float) → n ≡ number.Value v → P (row v)) → P (byAxis (axisOf k n) row)
   by-axis k number.OutsideGrammar row h = refused (refusal.OutsideGrammar k)
   by-axis k number.BeyondReach row h = refused (refusal.BeyondReach k)
-  by-axis k (number.Value v) row h = h v
+  by-axis k (number.Value v) row h = h v refl
 
-  by-given : (row : Number → Number → Number → Row) → P Skipped → ((a b d : Number) → P (row a b d)) → (x y z : Coordinate) → P (givenAll x y z row)
-  by-given row s h Missing y z = s
-  by-given row s h (Given a) Missing z = s
-  by-given row s h (Given a) (Given b) Missing = s
-  by-given row s h (Given a) (Given b) (Given d) = h a b d
+  by-given : (row : Number → Number → Number → Row) → P Skipped → (x y z : Coordinate) → ((a b d : Number) → x ≡ Given a → y ≡ Given b → z ≡ Given d → P (row a b d)) → P (givenAll x y z row)
+  by-given row s Missing y z h = s
+  by-given row s (Given a) Missing z h = s
+  by-given row s (Given a) (Given b) Missing h = s
+  by-given row s (Given a) (Given b) (Given d) h = h a b d refl refl refl
 
-  by-reach : (r : Reach) (row : Row) → P row → P (byReach r row)
-  by-reach Whole row h = h
+  by-reach : (r : Reach) (row : Row) → (r ≡ Whole → P row) → P (byReach r row)
+  by-reach Whole row h = h refl
   by-reach (ColumnMissing k) row h = refused (refusal.ColumnMissing k)
   by-reach Short row h = refused refusal.RowShort
 
-  module _ (f : Fields) (last : (position : Point3) (o : Float) (assumed : Bool) → IsOccupancy (f .occupancy) o → P (named f position o assumed)) where
-    pub located-is : (x y z : Number) → P (located f x y z)
+  module _ (f : Fields) where
+    pub located-is : (x y z : Number) → ((position : Point3) (o : Float) (assumed : Bool) → AreValues x y z position → IsOccupancy (f .occupancy) o → P (named f position o assumed)) → P (located f x y z)
     unfolding located occupied
-    located-is x y z = by-axis 1 x _ (λ x. by-axis 2 y _ (λ y. by-axis 3 z _ (λ z. by-occupancy (f .occupancy) (named f (record { x = x; y = y; z = z })) (last (record { x = x; y = y; z = z })))))
+    located-is x y z last =
+        by-axis 1 x _ (λ a p. by-axis 2 y _ (λ b q. by-axis 3 z _ (λ d r.
+        by-occupancy (f .occupancy) (named f (record { x = a; y = b; z = d })) (λ o assumed h. last (record { x = a; y = b; z = d }) o assumed (p, q, r) h))))
 
-    pub row-is : P Skipped → P (rowOf f)
+    pub row-is : P Skipped → ((position : Point3) (o : Float) (assumed : Bool) → Read f position o → P (named f position o assumed)) → P (rowOf f)
     unfolding rowOf reached
-    row-is s = by-reach (f .reach) (reached f) (by-given (located f) s located-is (f .x) (f .y) (f .z))
+    row-is s last =
+        by-reach (f .reach) (reached f) (λ w. by-given (located f) s (f .x) (f .y) (f .z) (λ a b d p q r.
+        located-is a b d (λ position o assumed v h.
+        last position o assumed (record { reach = w; x = p ∙ ap Given (v .0); y = q ∙ ap Given (v .1); z = r ∙ ap Given (v .2); occupancy = h }))))

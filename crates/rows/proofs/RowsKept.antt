@@ -1,5 +1,6 @@
--- A row is kept where it reaches all that it must, its numbers are values and its names fit; and a kept row's names fit, since step 7 is the last.
-use mathlib.Core.Path.{_≡_, ap, subst, _∙_}
+-- A row is kept where it reaches all that it must, its numbers are values and its names fit; and only there, since each step but the last hands on
+-- what it was given.
+use mathlib.Core.Path.{_≡_, refl, ap, subst, _∙_}
 use mathlib.Core.Bool.{Bool, true, false, not, cond}
 use Prim.Native.Nat.{_≤_}
 use lib.Dec.{T, nltb→le}
@@ -17,7 +18,7 @@ use Rattle.rows.specs.declared.rules.Row.{Row}
 use Rattle.rows.specs.declared.rules.Row.the-variants.{Refused, Skipped, Kept}
 use Rattle.rows.specs.declared.rules.Site.{Site}
 use Rattle.rows.specs.Rules.{siteOf, tooLong, named, byOccupancy, occupied, located, givenAll, reached, byReach, rowOf}
-use Rattle.rows.proofs.RowCases.{row-is}
+use Rattle.rows.proofs.RowCases.{Read, row-is}
 
 -- the three names have at most 8 bytes
 pub record NamesFit (f : Fields) : Type 0 where
@@ -40,15 +41,20 @@ kept f {x} {y} {z} {o} er ex ey ez eo n =
     ∙ ap (λ (c : Coordinate). byOccupancy c (named f (record { x = x; y = y; z = z }))) eo
     ∙ named-kept f n (record { x = x; y = y; z = z }) o false
 
--- ---- kept: the names fit
+-- ---- kept: all of it
+pub record KeptOf (f : Fields) (s : Site) : Type 0 where
+  pub read : Read f (s .position) (s .occupancy)
+  pub names : NamesFit f
+  pub site : s ≡ siteOf f (s .position) (s .occupancy) (s .assumed)
+
 abbrev IfKept : Fields → Row → Type 0
 IfKept f (Refused r) = Unit {0}
 IfKept f Skipped = Unit {0}
-IfKept f (Kept s) = NamesFit f
+IfKept f (Kept s) = KeptOf f s
 
-named-fit : (f : Fields) (position : Point3) (o : Float) (assumed : Bool) → IfKept f (named f position o assumed)
+named-only : (f : Fields) (position : Point3) (o : Float) (assumed : Bool) → Read f position o → IfKept f (named f position o assumed)
 unfolding named
-named-fit f position o assumed = go (tooLong (f .atom)) (tooLong (f .residue)) (tooLong (f .chain)) (nltb→le 8 (f .atom .length)) (nltb→le 8 (f .residue .length)) (nltb→le 8 (f .chain .length))
+named-only f position o assumed w = go (tooLong (f .atom)) (tooLong (f .residue)) (tooLong (f .chain)) (nltb→le 8 (f .atom .length)) (nltb→le 8 (f .residue .length)) (nltb→le 8 (f .chain .length))
   where
     go :
         (t u v : Bool) → (T (not t) → f .atom .length ≤ 8) → (T (not u) → f .residue .length ≤ 8) → (T (not v) → f .chain .length ≤ 8)
@@ -56,7 +62,7 @@ named-fit f position o assumed = go (tooLong (f .atom)) (tooLong (f .residue)) (
     go true u v a r c = tt
     go false true v a r c = tt
     go false false true a r c = tt
-    go false false false a r c = record { atom = a tt; residue = r tt; chain = c tt }
+    go false false false a r c = record { read = w; names = record { atom = a tt; residue = r tt; chain = c tt }; site = refl }
 
-pub names-fit : (f : Fields) (s : Site) → rowOf f ≡ Kept s → NamesFit f
-names-fit f s e = subst (IfKept f) e (row-is (IfKept f) (λ r. tt) f (λ position o assumed h. named-fit f position o assumed) tt)
+pub kept-only : (f : Fields) (s : Site) → rowOf f ≡ Kept s → KeptOf f s
+kept-only f s e = subst (IfKept f) e (row-is (IfKept f) (λ r. tt) f tt (named-only f))

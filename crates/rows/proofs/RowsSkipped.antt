@@ -57,7 +57,7 @@ named-stays f position o assumed = go (tooLong (f .atom)) (tooLong (f .residue))
     go false false false = refl
 
 located-stays : (f : Fields) (x y z : Number) → skips (located f x y z) ≡ false
-located-stays f = located-is (λ row. skips row ≡ false) (λ r. refl) f (λ position o assumed h. named-stays f position o assumed)
+located-stays f x y z = located-is (λ row. skips row ≡ false) (λ r. refl) f x y z (λ position o assumed v h. named-stays f position o assumed)
 
 any-missing : (row : Number → Number → Number → Row) → ((a b d : Number) → skips (row a b d) ≡ false) → (x y z : Coordinate) → skips (givenAll x y z row) ≡ true → (x ≡ Missing) ⊎ ((y ≡ Missing) ⊎ (z ≡ Missing))
 any-missing row h Missing y z e = inl refl

@@ -6,5 +6,6 @@ pub mod PutLaws
 pub mod QuoteLaws
 pub mod SequenceLaws
 pub mod TokenLaws
+pub mod TokensAreOfTheLine
 pub mod TrimLaws
 pub mod WalkLaws
