@@ -19,7 +19,7 @@ use Rattle.model.specs.Chains.{chainPlace}
 use Rattle.model.specs.Classes.{isLone}
 use Rattle.model.specs.Finished.{known, keyPart, namePart, atomRecord, classified, positioned, allPositioned, modelFrom, finishedOf}
 use Rattle.model.specs.Fold.{Residue, Atom, State, residueOf, atomOf, start, modelOf}
-use Rattle.model.specs.Keys.{atomPlace, residueAt, atomAt}
+use Rattle.model.specs.Keys.{atomPlace, residueAt, atomAt, chainPart, codePart}
 use Rattle.model.specs.Lent.{listFrom}
 use Rattle.model.specs.Lists.{filter, All}
 use Rattle.model.specs.Map.{Entry, find}
@@ -28,9 +28,8 @@ use Rattle.model.specs.Records.{ResidueRecord, AtomRecord, Model}
 use Rattle.model.specs.Rules.{sameResidue, sameAtom, firstMet, firstOf, Ruled}
 use Rattle.model.specs.Sound.{Sound}
 use Rattle.model.specs.Taken.{Taken, sites}
-use Rattle.model.specs.Termini.{chainPart}
 use Rattle.ascii.specs.Lists.{every}
-use Rattle.model.specs.WellFormed.{isName, isCode, codePart, isNear, differ, runsOf, chainsWell, classWell, residueWell, atomWell, inRuns, inOrder, wellFormed}
+use Rattle.model.specs.WellFormed.{isName, isCode, isNear, differ, runsOf, chainsWell, classWell, residueWell, atomWell, inRuns, inOrder, wellFormed}
 use Rattle.model.proofs.AscendingLaws.{map-ascends}
 use Rattle.model.proofs.ChainsDiffer.{chains-differ, chain-of-row, place-within, chain-at}
 use Rattle.model.proofs.ChainsFirstMet.{Met, metAfter, all-met}

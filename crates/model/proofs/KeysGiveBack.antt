@@ -2,33 +2,25 @@
 -- below the step of the number above it.
 use mathlib.Core.Path.{_≡_}
 use mathlib.Core.List.{List}
-use Prim.Native.Nat.{ℕ, _^_, _<_}
+use Prim.Native.Nat.{ℕ, _^_}
 use native.Mathlib.Nat.{div-add-mod'}
-use native.Mathlib.Omega.{arith}
 use lib.Arith.{digits-div, digits-mod}
 use Rattle.rows.specs.declared.rules.Site.{Site}
 use Rattle.model.specs.Chains.{chainPlace}
 use Rattle.model.specs.Finished.{keyPart, namePart}
-use Rattle.model.specs.Keys.{residueKey, atomPlace, residueAt, atomAt}
+use Rattle.model.specs.Keys.{atomPlace, residueAt, atomAt, chainPart, codePart}
 use Rattle.model.specs.Proper.{Proper}
-use Rattle.model.specs.Termini.{chainPart}
-use Rattle.model.specs.WellFormed.{codePart}
-
-chain-back : (place sequence code : ℕ) → sequence < 2 ^ 32 → code < 2 ^ 8 → chainPart (residueKey place sequence code) ≡ place
-chain-back place sequence code h k = omega arith
-
-code-back : (place sequence code : ℕ) → code < 2 ^ 8 → codePart (residueKey place sequence code) ≡ code
-code-back place sequence code k = omega arith
+use Rattle.model.proofs.KeyTakenApart.{chain-again, code-again}
 
 -- ---- the parts of a site's key and place
 module _ (chains : List ℕ) (s : Site) (p : Proper s) where
   pub chain-of-key : chainPart (residueAt chains s) ≡ chainPlace (s .chain) chains
   unfolding residueAt
-  chain-of-key = chain-back (chainPlace (s .chain) chains) (s .sequence) (s .«insertion_code») (p .sequence) (p .code)
+  chain-of-key = chain-again (chainPlace (s .chain) chains) (s .sequence) (s .«insertion_code») (p .sequence) (p .code)
 
   pub code-of-key : codePart (residueAt chains s) ≡ s .«insertion_code»
   unfolding residueAt
-  code-of-key = code-back (chainPlace (s .chain) chains) (s .sequence) (s .«insertion_code») (p .code)
+  code-of-key = code-again (chainPlace (s .chain) chains) (s .sequence) (s .«insertion_code») (p .sequence) (p .code)
 
   pub key-of-place : keyPart (atomAt chains s) ≡ residueAt chains s
   unfolding atomAt

@@ -13,6 +13,7 @@ pub mod FirstEntries
 pub mod FoldKeepsRules
 pub mod FoldParts
 pub mod HeldModelIsRead
+pub mod KeyTakenApart
 pub mod KeysGiveBack
 pub mod KeysKeepOrder
 pub mod KeysTellApart
@@ -31,6 +32,7 @@ pub mod RulesDecide
 pub mod RulingsStay
 pub mod RunsLaws
 pub mod SameFinished
+pub mod SignedSequence
 pub mod SitesAreSound
 pub mod StopsAtTheFirst
 pub mod TerminiLaws

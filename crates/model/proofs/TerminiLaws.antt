@@ -8,9 +8,10 @@ use native.Mathlib.Omega.{arith}
 use lib.Dec.{eqb, eqb·zero-suc, ltb}
 use borrow.Author.Tests.{lt-ltb, le-ltb, eqb-true, eqb-false, eq-eqb, ne-eqb}
 use Rattle.names.specs.Places.{ascends}
+use Rattle.model.specs.Keys.{chainPart}
 use Rattle.model.specs.Lists.{any, All}
 use Rattle.model.specs.Records.{ResidueRecord}
-use Rattle.model.specs.Termini.{isPolymer, chainPart, besides, isFirst, isLast}
+use Rattle.model.specs.Termini.{isPolymer, besides, isFirst, isLast}
 use Rattle.model.specs.Walks.{metIn, endsChain}
 use Rattle.model.proofs.AscendingLaws.{ascends-all, ascends-before, ascends-from}
 use Rattle.model.proofs.ListLaws.{any-none, any-append, all-map, all-of, all-at, mem-middle}

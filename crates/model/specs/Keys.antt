@@ -3,13 +3,23 @@
 use mathlib.Core.Path.{_≡_}
 use mathlib.Core.Logic.{_⊎_}
 use mathlib.Core.List.{List}
-use Prim.Native.Nat.{ℕ, _+_, _*_, _^_, _<_}
+use Prim.Native.Nat.{ℕ, _+_, _*_, _/_, _%_, _^_, _<_}
 use Rattle.rows.specs.declared.rules.Site.{Site}
 use Rattle.model.specs.Chains.{chainPlace}
 
 -- a residue's key, by the place of its chain, its sequence (moved up by 2 ^ 31, so that it has no sign) and its insertion code (a byte, 0 for none)
 abbrev pub residueKey : ℕ → ℕ → ℕ → ℕ
 residueKey place sequence code = place * 2 ^ 40 + sequence * 2 ^ 8 + code
+
+-- and those three, by the key
+abbrev pub chainPart : ℕ → ℕ
+chainPart key = key / 2 ^ 40
+
+abbrev pub sequencePart : ℕ → ℕ
+sequencePart key = key % 2 ^ 40 / 2 ^ 8
+
+abbrev pub codePart : ℕ → ℕ
+codePart key = key % 2 ^ 8
 
 -- an atom's place, by its residue's key and its packed name
 abbrev pub atomPlace : ℕ → ℕ → ℕ

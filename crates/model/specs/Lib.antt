@@ -13,6 +13,7 @@ pub mod Room
 pub mod Rules
 pub mod Sound
 pub mod Taken
+pub mod TakenOut
 pub mod Termini
 pub mod Walks
 pub mod WellFormed

@@ -2,7 +2,7 @@
 -- has the first mark, those between Internal, all others None.
 use mathlib.Core.Bool.{Bool, true, false, not, _&&_}
 use mathlib.Core.List.{List}
-use Prim.Native.Nat.{ℕ, _/_, _^_}
+use Prim.Native.Nat.{ℕ}
 use lib.Dec.{eqb, ltb}
 use Rattle.names.specs.Polymers.{polymerOf}
 use Rattle.names.specs.Positions.{positionCode}
@@ -10,6 +10,7 @@ use Rattle.names.specs.declared.residues.Polymer.{Polymer}
 use Rattle.names.specs.declared.residues.Polymer.the-variants.{Protein, Nucleic, Neither}
 use Rattle.names.specs.declared.residues.ResiduePosition.{ResiduePosition}
 use Rattle.names.specs.declared.residues.ResiduePosition.the-variants.{Internal, NTerminal, CTerminal, FivePrime, ThreePrime}
+use Rattle.model.specs.Keys.{chainPart}
 use Rattle.model.specs.Lists.{any}
 use Rattle.model.specs.Records.{ResidueRecord}
 
@@ -31,10 +32,6 @@ ofEither Neither = false
 -- Standard and not HOH, by the standard code
 unfoldable pub isPolymer : ℕ → Bool
 isPolymer code = ofEither (polymerOf code)
-
--- the place of a residue's chain, by its key
-abbrev pub chainPart : ℕ → ℕ
-chainPart key = key / 2 ^ 40
 
 -- Standard and not HOH, and of the same chain as r
 abbrev pub besides : ResidueRecord → ResidueRecord → Bool

@@ -3,8 +3,9 @@ use mathlib.Core.Bool.{Bool, true, not, cond}
 use mathlib.Core.List.{List, [], _∷_}
 use Prim.Native.Nat.{ℕ, suc}
 use lib.Dec.{eqb, ltb}
+use Rattle.model.specs.Keys.{chainPart}
 use Rattle.model.specs.Records.{ResidueRecord}
-use Rattle.model.specs.Termini.{isPolymer, chainPart}
+use Rattle.model.specs.Termini.{isPolymer}
 
 -- ---- atoms, by the keys of their residues
 

@@ -1,7 +1,7 @@
 -- Well formed: what document 01 asks of a model in lent slices.
 use mathlib.Core.Bool.{Bool, true, false, not, _&&_, _||_, cond}
 use mathlib.Core.List.{List, [], _∷_, map}
-use Prim.Native.Nat.{ℕ, _%_}
+use Prim.Native.Nat.{ℕ}
 use lib.Dec.{eqb, leb, ltb}
 use lib.ListN.{length}
 use Rattle.ascii.specs.Bytes.{bytes, isTextByte}
@@ -11,11 +11,11 @@ use Rattle.names.specs.Places.{ascends}
 use Rattle.numbers.specs.Rounding.{printable}
 use Rattle.rows.specs.declared.rules.Point3.{Point3}
 use Rattle.model.specs.Classes.{classOf, isLone}
-use Rattle.model.specs.Keys.{atomPlace}
+use Rattle.model.specs.Keys.{chainPart, codePart, atomPlace}
 use Rattle.model.specs.Lent.{Lent, roomOf, listFrom, modelIn}
 use Rattle.model.specs.Lists.{any}
 use Rattle.model.specs.Records.{ResidueRecord, AtomRecord, Model}
-use Rattle.model.specs.Termini.{chainPart, ruledPosition}
+use Rattle.model.specs.Termini.{ruledPosition}
 
 -- ---- lists
 
@@ -48,10 +48,6 @@ isName n = ltb 0 n && every isTextByte (unpacked n)
 -- 0, 9 or 32 to 126
 unfoldable pub isCode : ℕ → Bool
 isCode b = eqb b 0 || isTextByte b
-
--- the insertion code of a residue, by its key
-abbrev pub codePart : ℕ → ℕ
-codePart key = key % 256
 
 -- finite, magnitude at most 1,000,000
 abbrev pub isNear : Point3 → Bool

@@ -1,6 +1,7 @@
 // The model that rows make. Its definitions and theorems are in specs/ and proofs/; here is what is said of one residue by value.
 mod classes;
 mod room;
+mod taken_out;
 mod termini;
 mod walks;
 
@@ -8,6 +9,10 @@ pub use classes::Class;
 pub use classes::class_of;
 pub use room::Room;
 pub use room::room_of;
+pub use taken_out::Atom;
+pub use taken_out::Residue;
+pub use taken_out::atom_at;
+pub use taken_out::residue_at;
 pub use termini::is_polymer;
 pub use termini::position_of;
 pub use walks::chain_part;

@@ -5,7 +5,7 @@ ghost use mathlib.Core.Path.{_≡_};
 ghost use Prim.Native.Nat.{_+_};
 ghost use lib.ListN.{drop, take};
 ghost use Rattle.records.specs.Places.{pairs};
-ghost use Rattle.model.specs.Termini.{chainPart};
+ghost use Rattle.model.specs.Keys.{chainPart};
 ghost use Rattle.model.specs.Walks.{lessers, aloneIn, metWith, endsChain};
 
 // Past those of the first n that are less than key, from an index on.

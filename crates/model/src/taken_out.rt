@@ -1,0 +1,92 @@
+// A record taken out of the lent slices by value; zero in every field where there is none.
+use crate::walks::chain_part;
+use ascii::byte_at;
+use records::f64_at;
+use records::point_at;
+use records::u64_at;
+use rows::Point3;
+ghost use mathlib.Core.Path.{_≡_};
+ghost use lib.ListN.{getD};
+ghost use Rattle.records.specs.Clearing.{zeroFloat, zeroPoint};
+ghost use Rattle.model.specs.Lent.{pointOf};
+ghost use Rattle.model.specs.TakenOut.{signed, residueOut, atomOut};
+
+pub struct Residue {
+    // The place of its chain, from 0.
+    pub chain: u64,
+    pub sequence: i32,
+    // 0 for none.
+    pub insertion_code: u8,
+    pub name: u64,
+    // The numbers of the standard residue, the category and the position.
+    pub code: u8,
+    pub category: u8,
+    pub position: u8,
+}
+
+pub struct Atom {
+    // Its residue's key.
+    pub key: u64,
+    pub name: u64,
+    pub element: u8,
+    pub position: Point3,
+    pub occupancy: f64,
+}
+
+// A sequence number without its bias.
+fn signed(sequence: u32) -> i32
+    ensures { λ r. ⌜ r ≡ signed sequence ⌝ }
+{
+    (sequence as i64 - 2147483648) as i32
+}
+
+fn point_of(coordinates: [f64; 3]) -> Point3
+    ensures { λ r. ⌜ r ≡ pointOf coordinates ⌝ }
+{
+    Point3 {
+        x: coordinates[0],
+        y: coordinates[1],
+        z: coordinates[2],
+    }
+}
+
+pub fn residue_at(
+    keys: &[u64],
+    names: &[u64],
+    codes: &[u8],
+    categories: &[u8],
+    positions: &[u8],
+    i: usize,
+) -> Residue
+    ensures { λ r. ⌜ r ≡ residueOut (record { key = getD (now (keys .entry)) i 0; name = getD (now (names .entry)) i 0; code = getD (now (codes .entry)) i 0; category = getD (now (categories .entry)) i 0; position = getD (now (positions .entry)) i 0 }) ⌝ }
+{
+    let key = u64_at(keys, i);
+    Residue {
+        chain: chain_part(key),
+        sequence: signed((key % 1099511627776 / 256) as u32),
+        insertion_code: (key % 256) as u8,
+        name: u64_at(names, i),
+        code: byte_at(codes, i),
+        category: byte_at(categories, i),
+        position: byte_at(positions, i),
+    }
+}
+
+pub fn atom_at(
+    keys: &[u64],
+    names: &[u64],
+    elements: &[u8],
+    positions: &[[f64; 3]],
+    occupancies: &[f64],
+    i: usize,
+) -> Atom
+    ensures { λ r. ⌜ r ≡ atomOut (record { key = getD (now (keys .entry)) i 0; name = getD (now (names .entry)) i 0; element = getD (now (elements .entry)) i 0; position = pointOf (getD (now (positions .entry)) i zeroPoint); occupancy = getD (now (occupancies .entry)) i zeroFloat }) ⌝ }
+{
+    Atom {
+        key: u64_at(keys, i),
+        name: u64_at(names, i),
+        element: byte_at(elements, i),
+        position: point_of(point_at(positions, i)),
+        occupancy: f64_at(occupancies, i),
+    }
+}
