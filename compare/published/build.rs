@@ -70,6 +70,59 @@ pub fn columns(headers: &[String]) -> [Option<usize>; 15] {
         indices.type_symbol,
     ]
 }
+
+#[derive(Default)]
+pub struct Rows {
+    chain_order: Vec<String>,
+    chain_map: HashMap<String, BTreeMap<ResKey, TempResidue>>,
+}
+
+impl Rows {
+    pub fn add(&mut self, tokens: &[String], headers: &[String], line: usize) -> Result<(), Error> {
+        let indices = map_atom_site_indices(headers);
+        let (order, map) = (&mut self.chain_order, &mut self.chain_map);
+        process_atom_line(tokens, &indices, line, order, map)
+    }
+
+    pub fn chain_count(&self) -> usize {
+        self.chain_order.len()
+    }
+
+    pub fn residue_count(&self) -> usize {
+        self.chain_map.values().map(BTreeMap::len).sum()
+    }
+
+    pub fn atom_count(&self) -> usize {
+        self.residues().map(|residue| residue.atoms.len()).sum()
+    }
+
+    pub fn first_unknown(&self, context: &IoContext) -> Option<usize> {
+        let unknown = |residue: &TempResidue| {
+            let (_, standard) = context.classify_residue(&residue.raw_name);
+            determine_category(residue, standard).is_err()
+        };
+        self.residues().position(unknown)
+    }
+
+    pub fn occupancies(&self) -> Vec<f64> {
+        let mut occupancies = Vec::new();
+        for residue in self.residues() {
+            let mut atoms: Vec<_> = residue.atoms.iter().collect();
+            atoms.sort_by_key(|(name, _)| *name);
+            occupancies.extend(atoms.iter().map(|(_, (occupancy, _))| *occupancy));
+        }
+        occupancies
+    }
+
+    pub fn structure(self, context: &IoContext) -> Result<Structure, Error> {
+        build_structure(Structure::new(), self.chain_order, self.chain_map, context)
+    }
+
+    fn residues(&self) -> impl Iterator<Item = &TempResidue> {
+        let chains = self.chain_order.iter();
+        chains.flat_map(|chain| self.chain_map[chain].values())
+    }
+}
 "#;
 
 const ADDED_TO_WRITER: &str = r#"

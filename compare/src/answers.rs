@@ -3,6 +3,7 @@ use crate::probe::Number;
 use crate::reach;
 use crate::texts::{self, Text};
 use published::io::context::IoContext;
+use published::io::error::Error;
 use published::io::mmcif::{reader, writer};
 use published::model::atom::Atom;
 use published::model::chain::Chain;
@@ -10,6 +11,7 @@ use published::model::residue::Residue;
 use published::model::structure::Structure;
 use published::model::types::{Element, Point, ResidueCategory, StandardResidue};
 use std::ops::Range;
+use std::sync::LazyLock;
 
 /// The columns of `_atom_site.Cartn_x`, `Cartn_y` and `Cartn_z` in a written row.
 const COORDINATES: Range<usize> = 10..13;
@@ -27,6 +29,9 @@ _atom_site.label_asym_id
 _atom_site.label_seq_id
 ";
 const ROWS_IN_A_TEXT: usize = 1000;
+
+/// The published tables of residue names, made once: a text is read in less time than they take.
+pub static CONTEXT: LazyLock<IoContext> = LazyLock::new(IoContext::new_default);
 
 /// The published Rust reads `str`, so a text that is not UTF-8 is outside its grammar.
 pub fn number(text: &[u8]) -> Number {
@@ -88,7 +93,11 @@ pub fn written_text(structure: &Structure) -> String {
 
 /// What the published reader makes of the text, if it does not refuse it.
 pub fn structure(text: &str) -> Option<Structure> {
-    reader::read(text.as_bytes(), &IoContext::new_default()).ok()
+    read(text.as_bytes()).ok()
+}
+
+pub fn read(text: &[u8]) -> Result<Structure, Error> {
+    reader::read(text, &CONTEXT)
 }
 
 /// The tokens of a line, found as `read` finds them.
@@ -137,9 +146,8 @@ pub fn quoted(name: &[u8]) -> String {
 
 /// The canonical name and the standard residue of each name that has them.
 pub fn resolved(names: &[Text]) -> Vec<Option<(String, StandardResidue)>> {
-    let context = IoContext::new_default();
     let answers = names.iter().map(|name| {
-        let (canonical, standard) = context.classify_residue(text(name));
+        let (canonical, standard) = CONTEXT.classify_residue(text(name));
         standard.map(|standard| (canonical, standard))
     });
     answers.collect()
@@ -147,7 +155,7 @@ pub fn resolved(names: &[Text]) -> Vec<Option<(String, StandardResidue)>> {
 
 /// Every name of the published tables, in order.
 pub fn table_names() -> Vec<Text> {
-    let names = IoContext::new_default().names();
+    let names = CONTEXT.names();
     texts::distinct(names.into_iter().map(Text::from).collect())
 }
 

@@ -3,8 +3,13 @@
 use crate::answers;
 use crate::random::Random;
 use crate::texts::{self, Text};
+use std::sync::LazyLock;
 
 pub const GREATEST: u8 = 118;
+
+/// The published symbols in the order of their numbers, looked up once: every row has one.
+static SYMBOLS: LazyLock<Vec<&str>> =
+    LazyLock::new(|| (1..=GREATEST).map(answers::symbol).collect());
 
 /// How a text that is no symbol gets an element from the published Rust.
 #[derive(Debug, Clone, Copy, PartialEq, Eq)]
@@ -34,7 +39,10 @@ pub fn described(text: &[u8]) -> Option<(Difference, u8)> {
         return element.then_some((Difference::AtomicNumber, number));
     }
     let spelled = spelled(text.trim());
-    let element = (1..=GREATEST).find(|&number| answers::symbol(number) == spelled)?;
+    let element = (1..)
+        .zip(&*SYMBOLS)
+        .find(|&(_, &symbol)| symbol == spelled)?
+        .0;
     if text.trim() != text {
         return Some((Difference::Padded, element));
     }
@@ -66,9 +74,7 @@ pub fn families() -> [Vec<Text>; 4] {
 
 /// The symbols as the enum spells them.
 pub fn symbols() -> Vec<Text> {
-    (1..=GREATEST)
-        .map(|number| Text::from(answers::symbol(number)))
-        .collect()
+    SYMBOLS.iter().map(|&symbol| Text::from(symbol)).collect()
 }
 
 /// Symbols in every case, padded, and with a letter put in, and the word for none.

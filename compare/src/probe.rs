@@ -1,5 +1,7 @@
 //! The proved functions of `libprobe.a`, called through C conventions: a slice is a pointer and a
 //! length.
+use crate::outcomes::Outcome;
+use crate::records::Records;
 use std::fmt;
 
 unsafe extern "C" {
@@ -32,6 +34,34 @@ unsafe extern "C" {
     fn probe_resolve(name: *const u8, length: usize, canonical: *mut u64) -> u8;
     fn probe_element(symbol: *const u8, length: usize) -> u8;
     fn probe_symbol(element: u8) -> u64;
+    fn probe_read(
+        text: *const u8,
+        length: usize,
+        chains: *mut u64,
+        chains_length: usize,
+        residue_keys: *mut u64,
+        residue_keys_length: usize,
+        residue_names: *mut u64,
+        residue_names_length: usize,
+        residue_codes: *mut u8,
+        residue_codes_length: usize,
+        residue_categories: *mut u8,
+        residue_categories_length: usize,
+        residue_positions: *mut u8,
+        residue_positions_length: usize,
+        atom_keys: *mut u64,
+        atom_keys_length: usize,
+        atom_names: *mut u64,
+        atom_names_length: usize,
+        elements: *mut u8,
+        elements_length: usize,
+        positions: *mut [f64; 3],
+        positions_length: usize,
+        occupancies: *mut f64,
+        occupancies_length: usize,
+        numbers: *mut u64,
+        numbers_length: usize,
+    );
 }
 
 /// What a text is as a number.
@@ -156,8 +186,57 @@ pub fn symbol(element: u8) -> String {
     unpacked(unsafe { probe_symbol(element) })
 }
 
+/// Reads the text into the records.
+pub fn read(text: &[u8], records: &mut Records) -> Outcome {
+    let mut numbers = [u64::MAX; 10];
+    let chains = records.chains.slice();
+    let residue_keys = records.residue_keys.slice();
+    let residue_names = records.residue_names.slice();
+    let residue_codes = records.residue_codes.slice();
+    let residue_categories = records.residue_categories.slice();
+    let residue_positions = records.residue_positions.slice();
+    let atom_keys = records.atom_keys.slice();
+    let atom_names = records.atom_names.slice();
+    let elements = records.elements.slice();
+    let positions = records.positions.slice();
+    let occupancies = records.occupancies.slice();
+    // SAFETY: the function reads the bytes of `text`, and writes the slices and `numbers` alone,
+    // which are all distinct.
+    unsafe {
+        probe_read(
+            text.as_ptr(),
+            text.len(),
+            chains.as_mut_ptr(),
+            chains.len(),
+            residue_keys.as_mut_ptr(),
+            residue_keys.len(),
+            residue_names.as_mut_ptr(),
+            residue_names.len(),
+            residue_codes.as_mut_ptr(),
+            residue_codes.len(),
+            residue_categories.as_mut_ptr(),
+            residue_categories.len(),
+            residue_positions.as_mut_ptr(),
+            residue_positions.len(),
+            atom_keys.as_mut_ptr(),
+            atom_keys.len(),
+            atom_names.as_mut_ptr(),
+            atom_names.len(),
+            elements.as_mut_ptr(),
+            elements.len(),
+            positions.as_mut_ptr(),
+            positions.len(),
+            occupancies.as_mut_ptr(),
+            occupancies.len(),
+            numbers.as_mut_ptr(),
+            numbers.len(),
+        );
+    }
+    Outcome::of_numbers(numbers)
+}
+
 /// A packed name has its first byte highest, and zeros after its last.
-fn unpacked(name: u64) -> String {
+pub fn unpacked(name: u64) -> String {
     let bytes = name.to_be_bytes();
     String::from_utf8_lossy(&bytes)
         .trim_end_matches('\0')

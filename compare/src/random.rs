@@ -18,7 +18,12 @@ impl Random {
         self.bits() % bound
     }
 
+    /// A place in a list of that length.
+    pub fn place(&mut self, length: usize) -> usize {
+        self.below(length as u64) as usize
+    }
+
     pub fn pick<T: Copy>(&mut self, from: &[T]) -> T {
-        from[self.below(from.len() as u64) as usize]
+        from[self.place(from.len())]
     }
 }

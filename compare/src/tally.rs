@@ -20,6 +20,10 @@ impl Tally {
         }
     }
 
+    pub fn is_empty(&self) -> bool {
+        self.compared == 0
+    }
+
     /// Says how many were compared, or fails if some differed.
     pub fn finish(self, what: &str) {
         println!("compared {} {what}, no difference", self.alike(what));

@@ -4,7 +4,7 @@ use crate::texts::{self, Text};
 use crate::{answers, corpus};
 
 /// The items that matter, in the order of their numbers.
-const ITEMS: [&str; 15] = [
+pub const ITEMS: [&str; 15] = [
     "_atom_site.group_PDB",
     "_atom_site.auth_atom_id",
     "_atom_site.label_atom_id",

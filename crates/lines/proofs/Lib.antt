@@ -1,4 +1,5 @@
 pub mod DomainLaws
+pub mod FirstOutside
 pub mod LineLaws
 pub mod LinesAreText
 pub mod LinesFitTheText

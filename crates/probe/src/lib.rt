@@ -2,4 +2,5 @@
 mod name;
 mod number;
 mod placed;
+mod reading;
 mod token;

@@ -6,6 +6,7 @@ pub mod LaterColumnCounts
 pub mod ReachLaws
 pub mod RowCases
 pub mod RowsKept
+pub mod RowsRefused
 pub mod RowsSkipped
 pub mod TokensFitTheLine
 pub mod WholeRowsReach

@@ -1,4 +1,5 @@
 pub mod Columns
+pub mod Exact
 pub mod Fields
 pub mod Reach
 pub mod Refusals

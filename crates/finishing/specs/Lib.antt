@@ -1,0 +1,5 @@
+pub mod Classing
+pub mod Clearing
+pub mod Filling
+pub mod Finishing
+pub mod Positioning

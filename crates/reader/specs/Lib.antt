@@ -1,0 +1,4 @@
+pub mod Closing
+pub mod Exact
+pub mod Reading
+pub mod Rows

@@ -1,0 +1,8 @@
+// What a reading answers: the counts of the model, or why the text is refused.
+use building::Counts;
+use taking::Refusal;
+
+pub enum Answer {
+    Read(Counts),
+    Refused(Refusal),
+}

@@ -1,0 +1,4 @@
+pub mod ActLaws
+pub mod LengthLaws
+pub mod PlanLaws
+pub mod UnderWay

@@ -1,0 +1,260 @@
+// One line after the other: what each asks for is done to the slices, up to the first refusal.
+use crate::plans::Act;
+use crate::plans::plan_of;
+use crate::refusals::Refusal;
+use building::Counts;
+use building::Put;
+use building::put_site;
+use building::skip_row;
+use model::Room;
+use rows::Site;
+use states::Heads;
+ghost use mathlib.Core.Path.{_≡_};
+ghost use Rattle.lines.specs.Lines.{linesOf};
+ghost use Rattle.states.specs.Heads.{startHeads};
+ghost use Rattle.model.specs.Fold.{start};
+ghost use Rattle.building.specs.Holds.{recordsOf};
+ghost use Rattle.taking.specs.declared.plans.Act.the-variants.{Keep};
+ghost use Rattle.taking.specs.Lines.{linesRead};
+ghost use Rattle.taking.specs.Standing.{actedBy, onwardTo, noCounts, Acts, Takes, Reads, ahead};
+
+pub enum Halt {
+    Going,
+    Refused(Refusal),
+}
+
+pub struct Acted {
+    pub counts: Counts,
+    pub halt: Halt,
+}
+
+pub struct Standing {
+    pub heads: Heads,
+    pub counts: Counts,
+    pub halt: Halt,
+}
+
+fn no_counts() -> Counts
+    ensures { λ r. ⌜ r ≡ noCounts ⌝ }
+{
+    Counts {
+        chains: 0,
+        residues: 0,
+        atoms: 0,
+        rows: 0,
+        skipped: 0,
+        outdone: 0,
+        assumed: 0,
+    }
+}
+
+fn acted_by(number: usize, counts: Counts, put: Put) -> Acted
+    ensures { λ r. ⌜ r ≡ actedBy number counts put ⌝ }
+{
+    match put {
+        Put::NoRoom(lack) => Acted {
+            counts,
+            halt: Halt::Refused(Refusal::NoRoom {
+                line: number,
+                lack: lack,
+            }),
+        },
+        Put::Done(counted) => Acted {
+            counts: counted,
+            halt: Halt::Going,
+        },
+    }
+}
+
+fn put_at(
+    chains: &mut [u64],
+    residue_keys: &mut [u64],
+    residue_names: &mut [u64],
+    residue_marks: &mut [u8],
+    atom_keys: &mut [u64],
+    atom_names: &mut [u64],
+    elements: &mut [u8],
+    positions: &mut [[f64; 3]],
+    occupancies: &mut [f64],
+    room: Room,
+    number: usize,
+    counts: Counts,
+    site: Site,
+) -> Acted
+    ensures { λ r. ⌜ Acts (recordsOf (now (chains .entry)) (now («residue_keys» .entry)) (now («residue_names» .entry)) (now («residue_marks» .entry)) (now («atom_keys» .entry)) (now («atom_names» .entry)) (now (elements .entry)) (now (positions .entry)) (now (occupancies .entry))) room number counts (Keep site) r
+        (recordsOf (now (chains .exit)) (now («residue_keys» .exit)) (now («residue_names» .exit)) (now («residue_marks» .exit)) (now («atom_keys» .exit)) (now («atom_names» .exit)) (now (elements .exit)) (now (positions .exit)) (now (occupancies .exit))) ⌝ }
+{
+    let put = put_site(
+        chains,
+        residue_keys,
+        residue_names,
+        residue_marks,
+        atom_keys,
+        atom_names,
+        elements,
+        positions,
+        occupancies,
+        room,
+        counts,
+        site,
+    );
+    acted_by(number, counts, put)
+}
+
+fn do_act(
+    chains: &mut [u64],
+    residue_keys: &mut [u64],
+    residue_names: &mut [u64],
+    residue_marks: &mut [u8],
+    atom_keys: &mut [u64],
+    atom_names: &mut [u64],
+    elements: &mut [u8],
+    positions: &mut [[f64; 3]],
+    occupancies: &mut [f64],
+    room: Room,
+    number: usize,
+    counts: Counts,
+    act: Act,
+) -> Acted
+    ensures { λ r. ⌜ Acts (recordsOf (now (chains .entry)) (now («residue_keys» .entry)) (now («residue_names» .entry)) (now («residue_marks» .entry)) (now («atom_keys» .entry)) (now («atom_names» .entry)) (now (elements .entry)) (now (positions .entry)) (now (occupancies .entry))) room number counts act r
+        (recordsOf (now (chains .exit)) (now («residue_keys» .exit)) (now («residue_names» .exit)) (now («residue_marks» .exit)) (now («atom_keys» .exit)) (now («atom_names» .exit)) (now (elements .exit)) (now (positions .exit)) (now (occupancies .exit))) ⌝ }
+{
+    match act {
+        Act::Pass => Acted {
+            counts,
+            halt: Halt::Going,
+        },
+        Act::Skip => Acted {
+            counts: skip_row(counts),
+            halt: Halt::Going,
+        },
+        Act::Keep(site) => put_at(
+            chains,
+            residue_keys,
+            residue_names,
+            residue_marks,
+            atom_keys,
+            atom_names,
+            elements,
+            positions,
+            occupancies,
+            room,
+            number,
+            counts,
+            site,
+        ),
+        Act::Refuse(why) => Acted {
+            counts,
+            halt: Halt::Refused(why),
+        },
+    }
+}
+
+fn take_line(
+    chains: &mut [u64],
+    residue_keys: &mut [u64],
+    residue_names: &mut [u64],
+    residue_marks: &mut [u8],
+    atom_keys: &mut [u64],
+    atom_names: &mut [u64],
+    elements: &mut [u8],
+    positions: &mut [[f64; 3]],
+    occupancies: &mut [f64],
+    room: Room,
+    number: usize,
+    from: Standing,
+    line: &[u8],
+) -> Standing
+    ensures { λ r. ⌜ Takes (recordsOf (now (chains .entry)) (now («residue_keys» .entry)) (now («residue_names» .entry)) (now («residue_marks» .entry)) (now («atom_keys» .entry)) (now («atom_names» .entry)) (now (elements .entry)) (now (positions .entry)) (now (occupancies .entry))) room number from (now (line .entry)) r
+        (recordsOf (now (chains .exit)) (now («residue_keys» .exit)) (now («residue_names» .exit)) (now («residue_marks» .exit)) (now («atom_keys» .exit)) (now («atom_names» .exit)) (now (elements .exit)) (now (positions .exit)) (now (occupancies .exit))) ⌝ }
+{
+    let heads = from.heads;
+    let counts = from.counts;
+    let plan = plan_of(number, heads, line);
+    let act = plan.act;
+    let acted = do_act(
+        chains,
+        residue_keys,
+        residue_names,
+        residue_marks,
+        atom_keys,
+        atom_names,
+        elements,
+        positions,
+        occupancies,
+        room,
+        number,
+        counts,
+        act,
+    );
+    let heads = plan.heads;
+    let counts = acted.counts;
+    let halt = acted.halt;
+    Standing {
+        heads,
+        counts,
+        halt,
+    }
+}
+
+// Where to read on: a refusal ends the text.
+fn onward(halt: Halt, next: usize, size: usize) -> usize
+    ensures { λ r. ⌜ r ≡ onwardTo halt next size ⌝ }
+{
+    match halt {
+        Halt::Going => next,
+        Halt::Refused(_) => size,
+    }
+}
+
+// The lines of the text, unless it was refused before them.
+pub fn read_lines(
+    text: &[u8],
+    halt: Halt,
+    chains: &mut [u64],
+    residue_keys: &mut [u64],
+    residue_names: &mut [u64],
+    residue_marks: &mut [u8],
+    atom_keys: &mut [u64],
+    atom_names: &mut [u64],
+    elements: &mut [u8],
+    positions: &mut [[f64; 3]],
+    occupancies: &mut [f64],
+    room: Room,
+) -> Standing
+    ensures { λ r. ⌜ Reads (recordsOf (now (chains .entry)) (now («residue_keys» .entry)) (now («residue_names» .entry)) (now («residue_marks» .entry)) (now («atom_keys» .entry)) (now («atom_names» .entry)) (now (elements .entry)) (now (positions .entry)) (now (occupancies .entry))) room (ahead halt (linesRead room 1 startHeads start (linesOf (now (text .entry))))) r
+        (recordsOf (now (chains .exit)) (now («residue_keys» .exit)) (now («residue_names» .exit)) (now («residue_marks» .exit)) (now («atom_keys» .exit)) (now («atom_names» .exit)) (now (elements .exit)) (now (positions .exit)) (now (occupancies .exit))) ⌝ }
+{
+    let heads = states::start_heads();
+    let counts = no_counts();
+    let mut standing = Standing {
+        heads,
+        counts,
+        halt,
+    };
+    let mut number = 1;
+    let mut at = onward(halt, 0, text.len());
+    while at < text.len() {
+        let line = lines::line_at(text, at);
+        let end = line.end;
+        standing = take_line(
+            chains,
+            residue_keys,
+            residue_names,
+            residue_marks,
+            atom_keys,
+            atom_names,
+            elements,
+            positions,
+            occupancies,
+            room,
+            number,
+            standing,
+            &text[at..end],
+        );
+        let halted = standing.halt;
+        at = onward(halted, line.next, text.len());
+        number += 1;
+    }
+    standing
+}

@@ -1,0 +1,9 @@
+pub mod ClassWalk
+pub mod FromLaws
+pub mod NameLaws
+pub mod PlaceLaws
+pub mod PositionWalk
+pub mod RunLaws
+pub mod SliceLaws
+pub mod WalkTurns
+pub mod WholeModel

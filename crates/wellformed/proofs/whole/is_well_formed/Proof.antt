@@ -1,0 +1,65 @@
+-- Where the counts fit, the rules for the slices make the definition; and where they do not, the model is not well formed.
+use mathlib.Core.Path.{_≡_, sym, ap, _∙_}
+use mathlib.Core.Bool.{true, _&&_}
+use lib.Dec.{leb}
+use borrow.Author.Tests.{not-true, not-false}
+use Rattle.model.specs.declared.room.Room.{Room}
+use Rattle.model.specs.Lent.{Lent, lentOf}
+use Rattle.model.specs.WellFormed.{countsFit}
+use Rattle.wellformed.proofs.WholeModel.{within, not-counted, all-tested}
+use borrow.Author.Needs.{needs}
+use Rattle.wellformed.proofs.whole.is_well_formed.Statement.{statement}
+use Rattle.wellformed.proofs.whole.is_well_formed.Tie as tie
+
+-- the slices at entry
+abbrev lent : tie.Start → Lent
+lent s =
+    lentOf
+    (s .args .chains .now)
+    (s .args .residue-keys .now)
+    (s .args .residue-names .now)
+    (s .args .residue-codes .now)
+    (s .args .residue-categories .now)
+    (s .args .residue-positions .now)
+    (s .args .atom-keys .now)
+    (s .args .atom-names .now)
+    (s .args .elements .now)
+    (s .args .positions .now)
+    (s .args .occupancies .now)
+
+abbrev start : tie.After-counts-fit → tie.Start
+start k = k .before .before .before .before .before .before .before .before .before .before .before .before
+
+counted : (k : tie.After-counts-fit) → k .counts-fit .result ≡ countsFit (lent (start k)) (start k .args .chain-count) (start k .args .residue-count) (start k .args .atom-count)
+unfolding countsFit
+counted k =
+    k .counts-fit .ensures
+    ∙ ap (λ (r : Room). leb (start k .args .chain-count) (r .chains) && leb (start k .args .residue-count) (r .residues) && leb (start k .args .atom-count) (r .atoms)) (k .before .room-of .ensures)
+
+-- where the counts fit
+fit : (p : tie.Else1) → let s = start (p .before) in countsFit (lent s) (s .args .chain-count) (s .args .residue-count) (s .args .atom-count) ≡ true
+fit p = sym (counted (p .before)) ∙ not-false _ (p .if1 .left)
+
+room-of-requires : tie.Need-room-of-requires
+room-of-requires c κs = search needs
+
+counts-fit-requires : tie.Need-counts-fit-requires
+counts-fit-requires c κs = search needs
+
+returns : tie.Need-returns
+returns c =
+    let s = start (c .before) in
+    not-counted (lent s) (s .args .chain-count) (s .args .residue-count) (s .args .atom-count) (sym (counted (c .before)) ∙ not-true _ (c .if1 .taken))
+
+are-records-well-requires : tie.Need-are-records-well-requires
+are-records-well-requires c κs = let s = start (c .before) in within (lent s) (s .args .chain-count) (s .args .residue-count) (s .args .atom-count) (fit c)
+
+returns-2 : tie.Need-returns-2
+returns-2 c =
+    let s = start (c .before .before) in
+    c .are-records-well .ensures ∙ all-tested (lent s) (s .args .chain-count) (s .args .residue-count) (s .args .atom-count) (fit (c .before))
+
+pub is-well-formed-spec : {M : Type 1} → statement M
+is-well-formed-spec =
+    tie.close
+    (tie.spec room-of-requires counts-fit-requires returns are-records-well-requires returns-2)
