@@ -15,7 +15,6 @@ use Rattle.model.specs.Classes.{classBy, classOf}
 use Rattle.model.specs.Finished.{positioned, allPositioned}
 use Rattle.model.specs.Records.{ResidueRecord}
 use Rattle.model.specs.Termini.{besides, isFirst, isLast, ruledPosition}
-use Rattle.ascii.specs.Bytes.{isTextByte}
 use Rattle.ascii.specs.Lists.{every}
 use Rattle.model.specs.WellFormed.{isName}
 use Rattle.model.proofs.ListLaws.{left-of, right-of, any-map}

@@ -4,7 +4,7 @@ use Prim.{tt}
 use mathlib.Core.Path.{_≡_, refl, sym, ap, _∙_, subst}
 use mathlib.Core.Bool.{Bool, true, false, cond}
 use mathlib.Core.List.{List}
-use Prim.Native.Nat.{ℕ, _≤_}
+use Prim.Native.Nat.{ℕ}
 use lib.Dec.{ltb}
 use lib.ListN.{length}
 use borrow.Author.Tests.{ltb-false}
@@ -13,10 +13,9 @@ use Rattle.lines.specs.Lines.{linesOf}
 use Rattle.lines.specs.declared.domain.Outside.{Outside}
 use Rattle.lines.specs.declared.domain.Outside.the-variants.{None, At}
 use Rattle.states.specs.Heads.{startHeads}
-use Rattle.states.specs.declared.heads.Heads.{Heads}
 use Rattle.rows.specs.declared.rules.Site.{Site}
 use Rattle.model.specs.Finished.{Peopled}
-use Rattle.model.specs.Fold.{State, start, modelOf}
+use Rattle.model.specs.Fold.{start}
 use Rattle.model.specs.Lent.{Lent, roomOf, holding, emptyModel}
 use Rattle.model.specs.Proper.{Proper}
 use Rattle.model.specs.Sound.{Sound}
@@ -29,11 +28,11 @@ use Rattle.taking.specs.Lines.{Progress, going, halted, linesRead}
 use Rattle.taking.specs.Standing.{Stands, Reads, ahead}
 use Rattle.taking.specs.declared.refusals.Refusal.the-variants.{TextTooLong}
 use Rattle.taking.specs.declared.taking.Halt.{Halt}
-use Rattle.taking.specs.declared.taking.Halt.the-variants.{Going, Refused}
+use Rattle.taking.specs.declared.taking.Halt.the-variants.{Refused}
 use Rattle.taking.specs.declared.taking.Standing.{Standing}
 use Rattle.reader.specs.declared.answers.Answer.{Answer}
 use Rattle.reader.specs.Closing.{haltedBy, haltedEarly, PeopledIn, Closes, ReadBy}
-use Rattle.reader.specs.Exact.{Admitted, ReadInto}
+use Rattle.reader.specs.Exact.{Admitted}
 use Rattle.reader.specs.Reading.{Reading, read, refused, largest, atEnd, readOf, answerOf, leftBy}
 use Rattle.reader.specs.Rows.{rowsOf}
 use Rattle.reader.proofs.EndOfReading.{early}

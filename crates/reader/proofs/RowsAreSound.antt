@@ -1,7 +1,7 @@
 -- The rows of a text in the domain are sound: its lines have bytes 9 and 32 to 126 alone, and what such a line gives to the model is sound.
 use Prim.{tt}
-use mathlib.Core.Path.{_≡_, refl, ap, _∙_}
-use mathlib.Core.Bool.{Bool, true, false, _&&_, cond}
+use mathlib.Core.Path.{_≡_, refl}
+use mathlib.Core.Bool.{Bool, true, false, cond}
 use mathlib.Core.List.{List, [], _∷_, _++_}
 use Prim.Native.Nat.{ℕ, suc}
 use lib.Dec.{ltb}

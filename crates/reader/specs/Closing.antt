@@ -17,12 +17,11 @@ use Rattle.building.specs.declared.sites.Counts.{Counts}
 use Rattle.finishing.specs.declared.finished.Finish.{Finish}
 use Rattle.finishing.specs.declared.finished.Finish.the-variants.{Unknown, Known}
 use Rattle.reader.specs.declared.answers.Answer.{Answer}
-use Rattle.taking.specs.declared.refusals.Refusal.{Refusal}
 use Rattle.taking.specs.declared.refusals.Refusal.the-variants.{TextTooLong, OutsideDomain, UnknownResidue}
 use Rattle.taking.specs.declared.taking.Halt.{Halt}
 use Rattle.taking.specs.declared.taking.Halt.the-variants.{Going, Refused}
 use Rattle.taking.specs.Lines.{Progress, going, halted}
-use Rattle.reader.specs.Reading.{Reading, largest, readOf, atEnd, answerOf, leftBy}
+use Rattle.reader.specs.Reading.{largest, readOf, atEnd, answerOf, leftBy}
 use Rattle.taking.specs.Standing.{Stands}
 
 -- ---- before all lines

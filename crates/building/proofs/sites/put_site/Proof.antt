@@ -1,5 +1,5 @@
 -- What lacks the room is what the model lacks, and else what is stored is the model's next step.
-use mathlib.Core.Path.{_≡_, refl, sym, ap, _∙_, subst}
+use mathlib.Core.Path.{_≡_, refl, sym, _∙_, subst}
 use native.Mathlib.Omega.{arith}
 use Rattle.model.specs.declared.room.Room.{Room}
 use Rattle.model.specs.Fold.{State}

@@ -1,5 +1,5 @@
 -- The numbers are those of the answer, and the slices are as `read` leaves them.
-use mathlib.Core.Path.{_≡_, ap, _∙_}
+use mathlib.Core.Path.{ap, _∙_}
 use lib.Seq.{sets}
 use Rattle.reader.specs.declared.answers.Answer.{Answer}
 use Rattle.probe.specs.Readings.{numbersOf}

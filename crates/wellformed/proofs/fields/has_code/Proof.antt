@@ -1,7 +1,6 @@
 -- A code of 0 is no byte of a text, and any other is tested as one.
 use mathlib.Core.Path.{sym, _∙_}
 use borrow.Author.Tests.{ne-eqb}
-use Rattle.ascii.specs.Bytes.{isTextByte}
 use Rattle.model.specs.WellFormed.{isCode}
 use borrow.Author.Needs.{needs}
 use Rattle.wellformed.proofs.fields.has_code.Statement.{statement}

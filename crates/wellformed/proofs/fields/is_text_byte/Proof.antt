@@ -2,7 +2,6 @@
 use mathlib.Core.Path.{sym}
 use native.Mathlib.Omega.{arith}
 use borrow.Author.Tests.{ne-eqb, le-leb, lt-leb}
-use Rattle.ascii.specs.Bytes.{isTextByte}
 use Rattle.wellformed.proofs.fields.is_text_byte.Statement.{statement}
 use Rattle.wellformed.proofs.fields.is_text_byte.Tie as tie
 
