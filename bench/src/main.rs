@@ -1,6 +1,7 @@
-//! Prints how long the proved reader and the published Rust take for the same files, as ratios of one
-//! run, and how much memory. README.md says what each line means.
+//! Prints how long the proved reader, the published Rust and gemmi take for the same files, as ratios of
+//! one run, and how much memory. README.md says what each line means.
 mod files;
+mod gemmi;
 mod memory;
 mod sides;
 mod timing;
@@ -53,14 +54,19 @@ fn main() {
 }
 
 fn table() {
-    println!(
-        "| file | rows | MB | ours, s | published, s | ours / published | ours, rows/s | ours, MB/s | published, rows/s | published, MB/s | turns |"
-    );
-    println!("|---|---|---|---|---|---|---|---|---|---|---|");
-    for (name, shape, order) in GROWING {
-        growth(name, shape, order);
+    let gemmi = gemmi::Program::compiled();
+    if let Some(why) = gemmi.missing() {
+        println!("gemmi is not measured: {why}");
+        println!();
     }
-    timed(MOST_RESIDUES.0, &MOST_RESIDUES.1);
+    println!(
+        "| file | rows | MB | ours, s | published, s | gemmi, s | ours / published | ours / gemmi | ours, rows/s | ours, MB/s | published, rows/s | published, MB/s | turns |"
+    );
+    println!("|---|---|---|---|---|---|---|---|---|---|---|---|---|");
+    for (name, shape, order) in GROWING {
+        growth(name, shape, order, &gemmi);
+    }
+    timed(MOST_RESIDUES.0, &MOST_RESIDUES.1, &gemmi);
     println!();
     println!(
         "| file | side | peak, MB | of which the text and the program, MB | lent records, MB |"
@@ -72,7 +78,7 @@ fn table() {
 }
 
 /// One shape and order at growing sizes, as far as ours may be expected to end in time.
-fn growth(name: &str, shape: Shape, order: Order) {
+fn growth(name: &str, shape: Shape, order: Order, gemmi: &gemmi::Program) {
     let mut last: Option<(usize, Times)> = None;
     for rows in ROWS {
         let at_worst = last.map(|(fewer, times)| timing::at_worst(&times, fewer, rows));
@@ -84,24 +90,28 @@ fn growth(name: &str, shape: Shape, order: Order) {
             return;
         }
         let file = File { shape, order, rows };
-        last = Some((rows, timed(name, &file)));
+        last = Some((rows, timed(name, &file, gemmi)));
     }
 }
 
-fn timed(name: &str, file: &File) -> Times {
+fn timed(name: &str, file: &File, gemmi: &gemmi::Program) -> Times {
     let text = file.text();
-    let times = timing::measure(file, &text);
+    let times = timing::measure(file, &text, gemmi);
     let bytes = megabytes(text.len() as u64);
     let [ours, published] = [times.ours, times.published].map(|time| {
         let seconds = time.as_secs_f64();
         format!("{:.0} | {:.1}", file.rows as f64 / seconds, bytes / seconds)
     });
     println!(
-        "| {name} | {} | {bytes:.1} | {} | {} | {:.2} | {ours} | {published} | {} |",
+        "| {name} | {} | {bytes:.1} | {} | {} | {} | {} | {} | {ours} | {published} | {} |",
         file.rows,
         seconds(times.ours),
         seconds(times.published),
-        times.ours.as_secs_f64() / times.published.as_secs_f64(),
+        times.gemmi.map_or("-".to_string(), seconds),
+        ratio(times.ours, times.published),
+        times
+            .gemmi
+            .map_or("-".to_string(), |gemmi| ratio(times.ours, gemmi)),
         times.turns
     );
     times
@@ -109,6 +119,10 @@ fn timed(name: &str, file: &File) -> Times {
 
 fn seconds(time: Duration) -> String {
     format!("{:.4}", time.as_secs_f64())
+}
+
+fn ratio(ours: Duration, other: Duration) -> String {
+    format!("{:.2}", ours.as_secs_f64() / other.as_secs_f64())
 }
 
 fn megabytes(bytes: u64) -> f64 {

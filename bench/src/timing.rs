@@ -1,5 +1,6 @@
-//! Medians of repeated readings, the two sides in turn, so that both meet the same machine.
+//! Medians of repeated readings, the sides in turn, so that all meet the same machine.
 use crate::files::File;
+use crate::gemmi;
 use crate::sides::{self, Side};
 use compare::records::Records;
 use std::time::{Duration, Instant};
@@ -15,24 +16,29 @@ pub const LONGEST: Duration = Duration::from_secs(60);
 pub struct Times {
     pub ours: Duration,
     pub published: Duration,
+    pub gemmi: Option<Duration>,
     pub turns: usize,
 }
 
-pub fn measure(file: &File, text: &str) -> Times {
+pub fn measure(file: &File, text: &str, gemmi: &gemmi::Program) -> Times {
     let mut records = Records::new(file.room());
     sides::compare(file, text);
+    let mut reading = gemmi.reading(text);
     let mut times = Side::ALL.map(|_| Vec::new());
+    let mut gemmi = Vec::new();
     let began = Instant::now();
     while times[0].len() < MOST_TURNS && (times[0].is_empty() || began.elapsed() < BUDGET) {
         for (side, times) in Side::ALL.into_iter().zip(&mut times) {
             times.push(side.time(text, &mut records));
         }
+        gemmi.extend(reading.as_mut().map(gemmi::Reading::time));
     }
     let turns = times[0].len();
     let [ours, published] = times.map(median);
     Times {
         ours,
         published,
+        gemmi: (!gemmi.is_empty()).then(|| median(gemmi)),
         turns,
     }
 }

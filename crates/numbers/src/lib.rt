@@ -1,4 +1,4 @@
-// Numbers: decimal text to the nearest double, and a double to a fixed number of places.
+// Numbers: decimal text to the nearest double, a double to a fixed number of places, and a whole number to its digits.
 mod powers;
 mod printing;
 mod reading;
@@ -6,6 +6,7 @@ mod rounding;
 
 pub use printing::Printed;
 pub use printing::write_thousandths;
+pub use printing::write_whole;
 pub use reading::Number;
 pub use reading::read_number;
 pub use rounding::is_printable;

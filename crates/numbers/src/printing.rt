@@ -1,4 +1,4 @@
-// A double's text put at a place of a lent buffer: sign, whole number, point and places.
+// A number's text put at a place of a lent buffer: a whole number's digits, or a double's sign, whole number, point and places.
 use crate::powers::power_of_ten;
 use crate::rounding::is_negative;
 use crate::rounding::is_printable;
@@ -45,6 +45,17 @@ fn put_digits(out: &mut [u8], at: usize, count: usize, n: u64) -> usize
         rest = rest / 10;
     }
     at + count
+}
+
+// Puts a whole number's digits, with no zero in front, into the buffer from index at on.
+pub fn write_whole(out: &mut [u8], at: usize, n: u64) -> Placed
+    ensures { λ r. ⌜ (r ≡ placedOf (now (out .entry)) at (lastDigits (digitCount n) n)) × (now (out .exit) ≡ bufferAfter (now (out .entry)) at (lastDigits (digitCount n) n)) ⌝ }
+{
+    let count = digit_count(n);
+    if !ascii::fits_at(out.len(), at, count) {
+        return Placed::NoRoom(count);
+    }
+    Placed::Next(put_digits(out, at, count, n))
 }
 
 fn sign_length(negative: bool) -> usize

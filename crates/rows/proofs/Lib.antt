@@ -1,5 +1,6 @@
 pub mod AuthBeforeLabel
 pub mod CaseLaws
+pub mod CellLaws
 pub mod ColumnLaws
 pub mod ColumnsByItem
 pub mod LaterColumnCounts
@@ -8,5 +9,4 @@ pub mod RowCases
 pub mod RowsKept
 pub mod RowsRefused
 pub mod RowsSkipped
-pub mod TokensFitTheLine
 pub mod WholeRowsReach

@@ -10,9 +10,7 @@ use native.Mathlib.Omega.{arith}
 use lib.Dec.{T, leb, ltb, leb→le, nleb→lt, ltb→lt, nltb→le}
 use lib.ListN.{length, getD, drop, drop-of-length-le}
 use lib.Seq.{drop-cons}
-use borrow.Author.Tests.{le-leb}
-use Rattle.tokens.specs.Tokens.{tokensOf, tokenAt}
-use Rattle.tokens.proofs.NoTokenIsEmpty.{token-some, token-past}
+use borrow.Author.Tests.{le-leb, lt-leb}
 use Rattle.rows.specs.declared.columns.Columns.{Columns}
 use Rattle.rows.specs.declared.fields.Reach.{Reach}
 use Rattle.rows.specs.declared.fields.Reach.the-variants.{Whole, ColumnMissing, Short}
@@ -97,47 +95,31 @@ all-missed n column columns others e =
     furthest-missed n (furthest 0 (column ∷ columns)) others
     ∙ ap (λ (t : Bool). t || misses n others) (furthest-missed n 0 (column ∷ columns) ∙ none-missed n column columns e)
 
--- ---- no token is empty, so the token at a column tells whether the row reaches it
-module _ (line : List ℕ) (k : ℕ) where
-  missed : length (tokenAt line k) ≡ 0 → leb (length (tokensOf line)) k ≡ true
-  missed none = go (leb (length (tokensOf line)) k) (nleb→lt (length (tokensOf line)) k)
-    where
-      go : (t : Bool) → (T (not t) → k < length (tokensOf line)) → t ≡ true
-      go true beyond = refl
-      go false beyond = absurd (omega (arith, token-some line k (beyond tt)))
-
-  reached : (length (tokenAt line k) ≡ 0 → ⊥) → leb (length (tokensOf line)) k ≡ false
-  reached some = go (leb (length (tokensOf line)) k) (leb→le (length (tokensOf line)) k)
-    where
-      go : (t : Bool) → (T t → length (tokensOf line) ≤ k) → t ≡ false
-      go true within = absurd (some (ap length (token-past line k (within tt))))
-      go false within = refl
-
 -- ---- the three answers
-module _ (columns : Columns) (line : List ℕ) where
+module _ (columns : Columns) (n : ℕ) where
   abbrev reach : Reach
-  reach = reachOf columns (length (tokensOf line))
+  reach = reachOf columns n
 
   abbrev far : ℕ
   far = furthestOf columns
 
   pub column-missing : (k : ℕ) → k ≡ firstAbsent 1 (required columns) → (k ≡ 0 → ⊥) → ColumnMissing k ≡ reach
   unfolding reachOf
-  column-missing zero e n = absurd (n refl)
-  column-missing (suc k) e n = rw (sym e)
+  column-missing zero e some = absurd (some refl)
+  column-missing (suc k) e some = rw (sym e)
 
-  by-far : 0 ≡ firstAbsent 1 (required columns) → (t : Bool) → leb (length (tokensOf line)) far ≡ t → cond t Short Whole ≡ reach
+  by-far : 0 ≡ firstAbsent 1 (required columns) → (t : Bool) → leb (n) far ≡ t → cond t Short Whole ≡ reach
   unfolding reachOf furthestOf
   by-far e t h =
-      go (firstAbsent 1 (required columns)) e (misses (length (tokensOf line)) (required columns) || misses (length (tokensOf line)) (optional columns))
-      (sym h ∙ all-missed (length (tokensOf line)) _ _ (optional columns) (sym e))
+      go (firstAbsent 1 (required columns)) e (misses (n) (required columns) || misses (n) (optional columns))
+      (sym h ∙ all-missed (n) _ _ (optional columns) (sym e))
     where
       go : (k : ℕ) → 0 ≡ k → (u : Bool) → t ≡ u → cond t Short Whole ≡ reachBy k u
       go zero e u h = ap (λ (b : Bool). cond b Short Whole) h
       go (suc k) e u h = absurd (omega arith)
 
-  pub row-short : 0 ≡ firstAbsent 1 (required columns) → length (tokenAt line far) ≡ 0 → Short ≡ reach
-  row-short e none = by-far e true (missed line far none)
+  pub row-short : 0 ≡ firstAbsent 1 (required columns) → n ≤ far → Short ≡ reach
+  row-short e h = by-far e true (le-leb n far h)
 
-  pub row-whole : 0 ≡ firstAbsent 1 (required columns) → (length (tokenAt line far) ≡ 0 → ⊥) → Whole ≡ reach
-  row-whole e some = by-far e false (reached line far some)
+  pub row-whole : 0 ≡ firstAbsent 1 (required columns) → far < n → Whole ≡ reach
+  row-whole e h = by-far e false (lt-leb n far h)

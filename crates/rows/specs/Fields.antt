@@ -1,11 +1,12 @@
 -- The fields of a row, taken out of its line: each is what the token at its column says.
 use mathlib.Core.Path.{_≡_}
-use Prim.Native.Nat.{ℕ, _≤_}
+use Prim.Native.Nat.{ℕ, _<_}
 use mathlib.Core.Bool.{Bool, false, cond}
 use mathlib.Core.List.{List}
-use lib.ListN.{length, take}
+use lib.ListN.{length}
 use Rattle.ascii.specs.Bytes.{bytes, first}
 use Rattle.numbers.specs.Reading.{numberOf}
+use Rattle.tokens.specs.Split.{tokenIn}
 use Rattle.tokens.specs.Tokens.{tokensOf, tokenAt}
 use Rattle.tokens.specs.Words.{isMissing, isHetatm}
 use Rattle.tokens.specs.Sequence.{sequenceOf}
@@ -41,10 +42,10 @@ coordinateOf token = cond (isMissing token) Missing (Given (numberOf token))
 
 -- ---- the token at a column
 
--- the token stands at the front of the cell, and is n bytes long
-pub record Copied (token : List ℕ) (n : ℕ) (cell : List ℕ) : Type 0 where
-  pub within : n ≤ length cell
-  pub front : take n cell ≡ token
+-- the tokens of the line stand in a cell, one behind the other; a column is below 256
+pub record InCell (line cell places : List ℕ) (n : ℕ) : Type 0 where
+  pub many : n ≡ length (tokensOf line)
+  pub tokens : (k : ℕ) → k < 256 → tokenIn cell places n k ≡ tokenAt line k
 
 -- "An absent column gives no mark, no code, Unknown", and no occupancy
 abbrev pub ifDeclared : {A : Type 0} → ℕ → A → A → A

@@ -3,12 +3,15 @@ use crate::columns::Columns;
 use crate::columns::is_absent;
 use crate::reach::reach_of;
 use numbers::Number;
+use tokens::Part;
 ghost use mathlib.Core.Path.{_≡_};
-ghost use Prim.Native.Nat.{_≤_};
+ghost use mathlib.Core.List.{List};
+ghost use Prim.Native.Nat.{ℕ, _≤_, _<_};
 ghost use lib.ListN.{length, take};
+ghost use Rattle.tokens.specs.Split.{tokenIn, IsPart};
 ghost use Rattle.tokens.specs.Tokens.{tokenAt};
 ghost use Rattle.tokens.specs.Sequence.{sequenceOf};
-ghost use Rattle.rows.specs.Fields.{nameOf, chainOf, insertionCodeOf, coordinateOf, Copied, hetatmAt, insertionCodeAt, occupancyAt, elementAt, labelsOf, numbersOf, joinedOf, fieldsOf};
+ghost use Rattle.rows.specs.Fields.{nameOf, chainOf, insertionCodeOf, coordinateOf, InCell, hetatmAt, insertionCodeAt, occupancyAt, elementAt, labelsOf, numbersOf, joinedOf, fieldsOf};
 
 // Whether the row has all the columns that it must have, and reaches them.
 pub enum Reach {
@@ -81,87 +84,93 @@ fn coordinate_of(token: &[u8]) -> Coordinate
     Coordinate::Given(numbers::read_number(token))
 }
 
-// Copies the token at a column to the front of the cell, and gives its length.
-fn token_at(line: &[u8], column: u8, cell: &mut [u8]) -> usize
-    requires { ⌜ length (now line) ≤ length (now cell) ⌝ }
-    ensures { λ r. ⌜ Copied (tokenAt (now (line .entry)) column) r (now (cell .exit)) ⌝ }
+// ---- the token at a column, out of the cell that the line's tokens were copied to
+
+fn part_at(cell: &[u8], places: &[usize], n: usize, column: u8) -> Part
+    ensures { λ r. ⌜ IsPart (now (cell .entry)) (tokenIn (now (cell .entry)) (now (places .entry)) n column) r ⌝ }
 {
-    tokens::tokenize_mmcif_line(line, column as usize, cell)
+    tokens::part_of(cell, places, n, column as usize)
 }
 
-fn name_at(line: &[u8], column: u8, cell: &mut [u8]) -> Name
-    requires { ⌜ length (now line) ≤ length (now cell) ⌝ }
-    ensures { λ r. ⌜ r ≡ nameOf (tokenAt (now (line .entry)) column) ⌝ }
+fn name_at(cell: &[u8], places: &[usize], n: usize, column: u8) -> Name
+    ensures { λ r. ⌜ ((line : List ℕ) → InCell line (now (cell .entry)) (now (places .entry)) n → r ≡ nameOf (tokenAt line column)) ⌝ }
 {
-    let n = token_at(line, column, cell);
-    name_of(&cell[0..n])
+    let part = part_at(cell, places, n, column);
+    let start = part.start;
+    let end = part.end;
+    name_of(&cell[start..end])
 }
 
-fn chain_at(line: &[u8], column: u8, cell: &mut [u8]) -> Name
-    requires { ⌜ length (now line) ≤ length (now cell) ⌝ }
-    ensures { λ r. ⌜ r ≡ chainOf (tokenAt (now (line .entry)) column) ⌝ }
+fn chain_at(cell: &[u8], places: &[usize], n: usize, column: u8) -> Name
+    ensures { λ r. ⌜ ((line : List ℕ) → InCell line (now (cell .entry)) (now (places .entry)) n → r ≡ chainOf (tokenAt line column)) ⌝ }
 {
-    let n = token_at(line, column, cell);
-    chain_of(&cell[0..n])
+    let part = part_at(cell, places, n, column);
+    let start = part.start;
+    let end = part.end;
+    chain_of(&cell[start..end])
 }
 
-fn sequence_at(line: &[u8], column: u8, cell: &mut [u8]) -> u32
-    requires { ⌜ length (now line) ≤ length (now cell) ⌝ }
-    ensures { λ r. ⌜ r ≡ sequenceOf (tokenAt (now (line .entry)) column) ⌝ }
+fn sequence_at(cell: &[u8], places: &[usize], n: usize, column: u8) -> u32
+    ensures { λ r. ⌜ ((line : List ℕ) → InCell line (now (cell .entry)) (now (places .entry)) n → r ≡ sequenceOf (tokenAt line column)) ⌝ }
 {
-    let n = token_at(line, column, cell);
-    tokens::sequence_of(&cell[0..n])
+    let part = part_at(cell, places, n, column);
+    let start = part.start;
+    let end = part.end;
+    tokens::sequence_of(&cell[start..end])
 }
 
-fn coordinate_at(line: &[u8], column: u8, cell: &mut [u8]) -> Coordinate
-    requires { ⌜ length (now line) ≤ length (now cell) ⌝ }
-    ensures { λ r. ⌜ r ≡ coordinateOf (tokenAt (now (line .entry)) column) ⌝ }
+fn coordinate_at(cell: &[u8], places: &[usize], n: usize, column: u8) -> Coordinate
+    ensures { λ r. ⌜ ((line : List ℕ) → InCell line (now (cell .entry)) (now (places .entry)) n → r ≡ coordinateOf (tokenAt line column)) ⌝ }
 {
-    let n = token_at(line, column, cell);
-    coordinate_of(&cell[0..n])
+    let part = part_at(cell, places, n, column);
+    let start = part.start;
+    let end = part.end;
+    coordinate_of(&cell[start..end])
 }
 
-fn hetatm_at(line: &[u8], column: u8, cell: &mut [u8]) -> bool
-    requires { ⌜ length (now line) ≤ length (now cell) ⌝ }
-    ensures { λ r. ⌜ r ≡ hetatmAt (now (line .entry)) column ⌝ }
+fn hetatm_at(cell: &[u8], places: &[usize], n: usize, column: u8) -> bool
+    ensures { λ r. ⌜ ((line : List ℕ) → InCell line (now (cell .entry)) (now (places .entry)) n → r ≡ hetatmAt line column) ⌝ }
 {
     if is_absent(column) {
         return false;
     }
-    let n = token_at(line, column, cell);
-    tokens::is_hetatm(&cell[0..n])
+    let part = part_at(cell, places, n, column);
+    let start = part.start;
+    let end = part.end;
+    tokens::is_hetatm(&cell[start..end])
 }
 
-fn insertion_code_at(line: &[u8], column: u8, cell: &mut [u8]) -> u8
-    requires { ⌜ length (now line) ≤ length (now cell) ⌝ }
-    ensures { λ r. ⌜ r ≡ insertionCodeAt (now (line .entry)) column ⌝ }
+fn insertion_code_at(cell: &[u8], places: &[usize], n: usize, column: u8) -> u8
+    ensures { λ r. ⌜ ((line : List ℕ) → InCell line (now (cell .entry)) (now (places .entry)) n → r ≡ insertionCodeAt line column) ⌝ }
 {
     if is_absent(column) {
         return 0;
     }
-    let n = token_at(line, column, cell);
-    insertion_code_of(&cell[0..n])
+    let part = part_at(cell, places, n, column);
+    let start = part.start;
+    let end = part.end;
+    insertion_code_of(&cell[start..end])
 }
 
-fn occupancy_at(line: &[u8], column: u8, cell: &mut [u8]) -> Coordinate
-    requires { ⌜ length (now line) ≤ length (now cell) ⌝ }
-    ensures { λ r. ⌜ r ≡ occupancyAt (now (line .entry)) column ⌝ }
+fn occupancy_at(cell: &[u8], places: &[usize], n: usize, column: u8) -> Coordinate
+    ensures { λ r. ⌜ ((line : List ℕ) → InCell line (now (cell .entry)) (now (places .entry)) n → r ≡ occupancyAt line column) ⌝ }
 {
     if is_absent(column) {
         return Coordinate::Missing;
     }
-    coordinate_at(line, column, cell)
+    coordinate_at(cell, places, n, column)
 }
 
-fn element_at(line: &[u8], column: u8, cell: &mut [u8]) -> u8
-    requires { ⌜ length (now line) ≤ length (now cell) ⌝ }
-    ensures { λ r. ⌜ r ≡ elementAt (now (line .entry)) column ⌝ }
+fn element_at(cell: &[u8], places: &[usize], n: usize, column: u8) -> u8
+    ensures { λ r. ⌜ ((line : List ℕ) → InCell line (now (cell .entry)) (now (places .entry)) n → r ≡ elementAt line column) ⌝ }
 {
     if is_absent(column) {
         return 0;
     }
-    let n = token_at(line, column, cell);
-    names::element_of(&cell[0..n])
+    let part = part_at(cell, places, n, column);
+    let start = part.start;
+    let end = part.end;
+    names::element_of(&cell[start..end])
 }
 
 // What the atom is called, and its numbers: the fields are taken out in parts.
@@ -180,15 +189,14 @@ struct Numbers {
     occupancy: Coordinate,
 }
 
-fn labels_in(columns: Columns, line: &[u8], cell: &mut [u8]) -> Labels
-    requires { ⌜ length (now line) ≤ length (now cell) ⌝ }
-    ensures { λ r. ⌜ r ≡ labelsOf columns (now (line .entry)) ⌝ }
+fn labels_in(columns: Columns, cell: &[u8], places: &[usize], n: usize) -> Labels
+    ensures { λ r. ⌜ ((line : List ℕ) → InCell line (now (cell .entry)) (now (places .entry)) n → r ≡ labelsOf columns line) ⌝ }
 {
-    let atom = name_at(line, columns.atom(), cell);
-    let residue = name_at(line, columns.residue(), cell);
-    let chain = chain_at(line, columns.chain(), cell);
-    let sequence = sequence_at(line, columns.sequence(), cell);
-    let insertion_code = insertion_code_at(line, columns.insertion_code(), cell);
+    let atom = name_at(cell, places, n, columns.atom());
+    let residue = name_at(cell, places, n, columns.residue());
+    let chain = chain_at(cell, places, n, columns.chain());
+    let sequence = sequence_at(cell, places, n, columns.sequence());
+    let insertion_code = insertion_code_at(cell, places, n, columns.insertion_code());
     Labels {
         atom,
         residue,
@@ -198,14 +206,13 @@ fn labels_in(columns: Columns, line: &[u8], cell: &mut [u8]) -> Labels
     }
 }
 
-fn numbers_in(columns: Columns, line: &[u8], cell: &mut [u8]) -> Numbers
-    requires { ⌜ length (now line) ≤ length (now cell) ⌝ }
-    ensures { λ r. ⌜ r ≡ numbersOf columns (now (line .entry)) ⌝ }
+fn numbers_in(columns: Columns, cell: &[u8], places: &[usize], n: usize) -> Numbers
+    ensures { λ r. ⌜ ((line : List ℕ) → InCell line (now (cell .entry)) (now (places .entry)) n → r ≡ numbersOf columns line) ⌝ }
 {
-    let x = coordinate_at(line, columns.x(), cell);
-    let y = coordinate_at(line, columns.y(), cell);
-    let z = coordinate_at(line, columns.z(), cell);
-    let occupancy = occupancy_at(line, columns.occupancy(), cell);
+    let x = coordinate_at(cell, places, n, columns.x());
+    let y = coordinate_at(cell, places, n, columns.y());
+    let z = coordinate_at(cell, places, n, columns.z());
+    let occupancy = occupancy_at(cell, places, n, columns.occupancy());
     Numbers { x, y, z, occupancy }
 }
 
@@ -235,16 +242,24 @@ fn joined(reach: Reach, hetatm: bool, labels: Labels, numbers: Numbers, element:
     }
 }
 
-fn fields_in(columns: Columns, line: &[u8], cell: &mut [u8]) -> Fields
-    requires { ⌜ length (now line) ≤ length (now cell) ⌝ }
+fn fields_in(columns: Columns, cell: &[u8], places: &[usize], n: usize) -> Fields
+    ensures { λ r. ⌜ ((line : List ℕ) → InCell line (now (cell .entry)) (now (places .entry)) n → r ≡ fieldsOf columns line) ⌝ }
+{
+    let reach = reach_of(columns, n);
+    let hetatm = hetatm_at(cell, places, n, columns.group());
+    let labels = labels_in(columns, cell, places, n);
+    let numbers = numbers_in(columns, cell, places, n);
+    let element = element_at(cell, places, n, columns.symbol());
+    joined(reach, hetatm, labels, numbers, element)
+}
+
+// The line is walked once, however many of its columns are needed.
+fn fields_by(columns: Columns, line: &[u8], cell: &mut [u8], places: &mut [usize]) -> Fields
+    requires { ⌜ (length (now line) ≤ length (now cell)) × (256 < length (now places)) ⌝ }
     ensures { λ r. ⌜ r ≡ fieldsOf columns (now (line .entry)) ⌝ }
 {
-    let reach = reach_of(columns, line, cell);
-    let hetatm = hetatm_at(line, columns.group(), cell);
-    let labels = labels_in(columns, line, cell);
-    let numbers = numbers_in(columns, line, cell);
-    let element = element_at(line, columns.symbol(), cell);
-    joined(reach, hetatm, labels, numbers, element)
+    let n = tokens::split_mmcif_line(line, cell, places);
+    fields_in(columns, cell, places, n)
 }
 
 // The fields of a line; of one longer than 2,048 bytes, those of its first 2,048.
@@ -252,8 +267,9 @@ pub fn fields_of(columns: Columns, line: &[u8]) -> Fields
     ensures { λ r. ⌜ r ≡ fieldsOf columns (take 2048 (now (line .entry))) ⌝ }
 {
     let mut cell = [0u8; 2048];
+    let mut places = [0usize; 257];
     if line.len() <= 2048 {
-        return fields_in(columns, line, &mut cell);
+        return fields_by(columns, line, &mut cell, &mut places);
     }
-    fields_in(columns, &line[0..2048], &mut cell)
+    fields_by(columns, &line[0..2048], &mut cell, &mut places)
 }

@@ -3,8 +3,6 @@ use crate::columns::Columns;
 use crate::columns::is_absent;
 use crate::fields::Reach;
 ghost use mathlib.Core.Path.{_≡_};
-ghost use lib.ListN.{length};
-ghost use Rattle.tokens.specs.Tokens.{tokensOf};
 ghost use Rattle.rows.specs.Reach.{required, optional, firstAbsent, farther, furthest, furthestOf, reachOf};
 
 fn required_columns(columns: Columns) -> [u8; 7]
@@ -86,16 +84,16 @@ fn furthest_column(columns: Columns) -> u8
     furthest_of(far, &optional)
 }
 
-// No token is empty, so the row is short exactly where it has no token at the furthest column that it must reach.
-pub(crate) fn reach_of(columns: Columns, line: &[u8], cell: &mut [u8]) -> Reach
-    ensures { λ r. ⌜ r ≡ reachOf columns (length (tokensOf (now (line .entry)))) ⌝ }
+// A row of n tokens is short exactly where it does not reach the furthest column that it must reach.
+pub(crate) fn reach_of(columns: Columns, n: usize) -> Reach
+    ensures { λ r. ⌜ r ≡ reachOf columns n ⌝ }
 {
     let missing = missing_column(columns);
     if missing != 0 {
         return Reach::ColumnMissing(missing);
     }
     let far = furthest_column(columns) as usize;
-    if tokens::tokenize_mmcif_line(line, far, cell) == 0 {
+    if n <= far {
         return Reach::Short;
     }
     Reach::Whole

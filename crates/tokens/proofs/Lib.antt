@@ -2,10 +2,14 @@ pub mod ItemLaws
 pub mod LineReadsBack
 pub mod NameReadsBack
 pub mod NoTokenIsEmpty
+pub mod PartLaws
 pub mod PutLaws
 pub mod QuoteLaws
 pub mod SequenceLaws
+pub mod SplitLaws
+pub mod TokenInFront
 pub mod TokenLaws
 pub mod TokensAreOfTheLine
+pub mod TokensStandInTheCell
 pub mod TrimLaws
 pub mod WalkLaws

@@ -25,13 +25,13 @@ abbrev pub overAt : ℕ → ℕ → Walk
 overAt at len = record { at = at; quote = 0; left = 0; len = len; on = false }
 
 -- ---- what a byte of the text does
-at-byte :
+pub at-byte :
     (text : List ℕ) (q : ℕ) (token : List ℕ) (i : ℕ) → i < length text → scan q token (drop i text)
     ≡ byAct (actOf q (length token) (getD text i 0)) (scan q (token ++ getD text i 0 ∷ []) (drop (i + 1) text)) (ended token (scan q [] (drop (i + 1) text))) (λ r. scan r token (drop (i + 1) text))
 unfolding scan
 at-byte text q token i h = rw (add-one, drop-cons text i 0 h)
 
-at-end : (text : List ℕ) (q : ℕ) (token : List ℕ) (i : ℕ) → length text ≤ i → scan q token (drop i text) ≡ ended token []
+pub at-end : (text : List ℕ) (q : ℕ) (token : List ℕ) (i : ℕ) → length text ≤ i → scan q token (drop i text) ≡ ended token []
 unfolding scan
 at-end text q token i h = rw (drop-of-length-le text h)
 

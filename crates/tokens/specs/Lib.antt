@@ -3,6 +3,8 @@ pub mod Kinds
 pub mod Line
 pub mod Quote
 pub mod Sequence
+pub mod Split
+pub mod Splitting
 pub mod Tokens
 pub mod Trim
 pub mod Walk

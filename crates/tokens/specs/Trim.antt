@@ -2,6 +2,8 @@
 use Prim.Native.Nat.{ℕ}
 use mathlib.Core.Bool.{cond}
 use mathlib.Core.List.{List, [], _∷_}
+use lib.Dec.{eqb}
+use Rattle.ascii.specs.Bytes.{byte, first}
 use Rattle.tokens.specs.Kinds.{isBlank}
 
 unfoldable pub trimStart : List ℕ → List ℕ
@@ -19,3 +21,7 @@ trimEnd (b ∷ s) = keep b (trimEnd s)
 
 abbrev pub trim : List ℕ → List ℕ
 trim line = trimEnd (trimStart line)
+
+-- what of a line its tokens are made of: nothing where it begins #
+unfoldable pub contentOf : List ℕ → List ℕ
+contentOf line = cond (eqb (first (trim line)) (byte "#")) [] (trim line)

@@ -1,8 +1,7 @@
 // The k-th token of a line, copied to the front of a lent cell: the line is walked byte by byte until the token is whole.
 use crate::kinds::Kind;
 use crate::kinds::kind_of;
-use crate::trim::trim_end;
-use crate::trim::trim_start;
+use crate::trim::content_of;
 ghost use mathlib.Core.Path.{_≡_};
 ghost use mathlib.Core.Bool.{true, false, cond};
 ghost use mathlib.Core.List.{[]};
@@ -30,7 +29,7 @@ pub struct Walk {
     pub on: bool,
 }
 
-fn act_of(quote: u8, len: usize, b: u8) -> Act
+pub(crate) fn act_of(quote: u8, len: usize, b: u8) -> Act
     ensures { λ r. ⌜ r ≡ actOf quote len b ⌝ }
 {
     if quote != 0 {
@@ -135,12 +134,5 @@ fn token_from(text: &[u8], k: usize, cell: &mut [u8]) -> usize
 pub fn tokenize_mmcif_line(line: &[u8], k: usize, cell: &mut [u8]) -> usize
     ensures { λ r. ⌜ (r ≡ length (tokenAt (now (line .entry)) k)) × (now (cell .exit) ≡ sets (now (cell .entry)) 0 (tokenAt (now (line .entry)) k)) ⌝ }
 {
-    let start = trim_start(line);
-    let rest = &line[start..];
-    let end = trim_end(rest);
-    let text = &rest[0..end];
-    if ascii::byte_at(text, 0) == b'#' {
-        return 0;
-    }
-    token_from(text, k, cell)
+    token_from(content_of(line), k, cell)
 }

@@ -1,9 +1,9 @@
-// A line without the blanks at its ends: where it starts, and where it ends.
+// A line without the blanks at its ends: where it starts, where it ends, and what is left of it.
 use crate::kinds::is_blank;
 ghost use mathlib.Core.Path.{_≡_};
 ghost use Prim.Native.Nat.{_≤_};
 ghost use lib.ListN.{length, take, drop};
-ghost use Rattle.tokens.specs.Trim.{trimStart, trimEnd};
+ghost use Rattle.tokens.specs.Trim.{trimStart, trimEnd, contentOf};
 
 // The place of the first byte that is no blank, or the end.
 pub(crate) fn trim_start(line: &[u8]) -> usize
@@ -32,4 +32,18 @@ pub(crate) fn trim_end(line: &[u8]) -> usize
         i = j;
     }
     0
+}
+
+// What of a line its tokens are made of: a comment has none.
+pub(crate) fn content_of(line: &[u8]) -> &[u8]
+    ensures { λ r. ⌜ now r ≡ contentOf (now (line .entry)) ⌝ }
+{
+    let start = trim_start(line);
+    let rest = &line[start..];
+    let end = trim_end(rest);
+    let text = &rest[0..end];
+    if ascii::byte_at(text, 0) == b'#' {
+        return &text[0..0];
+    }
+    text
 }

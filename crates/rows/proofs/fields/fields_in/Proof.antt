@@ -1,8 +1,8 @@
--- The parts are those of the line, and are joined as in `fieldsOf`; a call leaves the cell as long as it was.
+-- The parts are those of the line, and are joined as in `fieldsOf`.
 use mathlib.Core.Path.{ap, _∙_}
-use native.Mathlib.Omega.{arith}
 use borrow.Author.Needs.{needs}
 use Rattle.rows.specs.Fields.{joinedOf, hetatmAt, elementAt, fieldsOf}
+use Rattle.rows.specs.Reach.{reachOf}
 use Rattle.rows.proofs.fields.fields_in.Statement.{statement}
 use Rattle.rows.proofs.fields.fields_in.Tie as tie
 
@@ -25,36 +25,21 @@ symbol-requires : tie.Need-symbol-requires
 symbol-requires c κs = search needs
 
 element-at-requires : tie.Need-element-at-requires
-element-at-requires c κs =
-    let numbers = c .before .before .before in
-    let labels = numbers .before .before .before .before in
-    let mark = labels .before .before .before .before in
-    let reach = mark .before .before .before .before .before in
-    omega (arith, reach .before .before .before .before .before .pre, numbers .cell4 .given, labels .cell3 .given, mark .cell2 .given, reach .cell .given)
+element-at-requires c κs = search needs
 
 joined-requires : tie.Need-joined-requires
 joined-requires c κs = search needs
 
-same-length : tie.Need-same-length
-same-length c =
-    let element = c .before .before in
-    let numbers = element .before .before .before .before .before in
-    let labels = numbers .before .before .before .before in
-    let mark = labels .before .before .before .before in
-    let reach = mark .before .before .before .before .before in
-    omega (arith, element .cell5 .given, numbers .cell4 .given, labels .cell3 .given, mark .cell2 .given, reach .cell .given)
-
 returns : tie.Need-returns
 unfolding fieldsOf
-returns c =
-    let element = c .before .before .before in
-    let numbers = element .before .before .before .before .before in
-    let labels = numbers .before .before .before .before in
-    let mark = labels .before .before .before .before in
-    let reach = mark .before .before .before .before .before in
-    let line = reach .before .before .before .before .args .line .now in
+returns c line held =
+    let numbers = c .before .before .before in
+    let labels = numbers .before in
+    let mark = labels .before in
+    let reach = mark .before .before in
+    let columns = reach .before .before .before .args .columns in
     c .joined .ensures
-    ∙ (λ i. joinedOf ((reach .reach-of .ensures) i) ((mark .hetatm-at .ensures ∙ ap (hetatmAt line) (mark .before .before .group .ensures)) i) ((labels .labels-in .ensures) i) ((numbers .numbers-in .ensures) i) ((element .element-at .ensures ∙ ap (elementAt line) (element .before .before .symbol .ensures)) i))
+    ∙ (λ i. joinedOf ((reach .reach-of .ensures ∙ ap (reachOf columns) (held .many)) i) ((mark .hetatm-at .ensures line held ∙ ap (hetatmAt line) (mark .before .group .ensures)) i) ((labels .labels-in .ensures line held) i) ((numbers .numbers-in .ensures line held) i) ((c .before .element-at .ensures line held ∙ ap (elementAt line) (c .before .before .symbol .ensures)) i))
 
 pub fields-in-spec : {M : Type 1} → statement M
 fields-in-spec =
@@ -68,5 +53,4 @@ fields-in-spec =
     symbol-requires
     element-at-requires
     joined-requires
-    same-length
     returns)

@@ -6,31 +6,37 @@ use Rattle.rows.specs.Fields.{fieldsOf}
 use Rattle.rows.proofs.fields.fields_of.Statement.{statement}
 use Rattle.rows.proofs.fields.fields_of.Tie as tie
 
-slice-aggregate-fields-in : tie.Need-slice-aggregate-fields-in
-slice-aggregate-fields-in c = search needs
+slice-aggregate-fields-by : tie.Need-slice-aggregate-fields-by
+slice-aggregate-fields-by c = search needs
 
-fields-in-requires : tie.Need-fields-in-requires
-fields-in-requires c κs = search needs
+slice-aggregate-fields-by-2 : tie.Need-slice-aggregate-fields-by-2
+slice-aggregate-fields-by-2 c = search needs
+
+fields-by-requires : tie.Need-fields-by-requires
+fields-by-requires c κs = search needs
 
 returns : tie.Need-returns
 returns c =
-    let a = c .before .before .before .before .before .args in
-    c .before .fields-in .ensures ∙ ap (fieldsOf (a .columns)) (sym (take-all 2048 (a .line .now) (c .before .before .before .if1 .taken)))
+    let a = c .before .before .before .before .before .before .before .args in
+    c .before .before .fields-by .ensures ∙ ap (fieldsOf (a .columns)) (sym (take-all 2048 (a .line .now) (c .before .before .before .before .before .if1 .taken)))
 
-sub-fields-in : tie.Need-sub-fields-in
-sub-fields-in c = search needs
+sub-fields-by : tie.Need-sub-fields-by
+sub-fields-by c = search needs
 
-part-fields-in-start : tie.Need-part-fields-in-start
-part-fields-in-start c = search needs
+part-fields-by-start : tie.Need-part-fields-by-start
+part-fields-by-start c = search needs
 
-part-fields-in-end : tie.Need-part-fields-in-end
-part-fields-in-end c = search needs
+part-fields-by-end : tie.Need-part-fields-by-end
+part-fields-by-end c = search needs
 
-slice-aggregate-fields-in-2 : tie.Need-slice-aggregate-fields-in-2
-slice-aggregate-fields-in-2 c = search needs
+slice-aggregate-fields-by-3 : tie.Need-slice-aggregate-fields-by-3
+slice-aggregate-fields-by-3 c = search needs
 
-fields-in-requires-2 : tie.Need-fields-in-requires-2
-fields-in-requires-2 c κs = search needs
+slice-aggregate-fields-by-4 : tie.Need-slice-aggregate-fields-by-4
+slice-aggregate-fields-by-4 c = search needs
+
+fields-by-requires-2 : tie.Need-fields-by-requires-2
+fields-by-requires-2 c κs = search needs
 
 returns-2 : tie.Need-returns-2
 returns-2 c = search needs
@@ -39,12 +45,14 @@ pub fields-of-spec : {M : Type 1} → statement M
 fields-of-spec =
     tie.close
     (tie.spec
-    slice-aggregate-fields-in
-    fields-in-requires
+    slice-aggregate-fields-by
+    slice-aggregate-fields-by-2
+    fields-by-requires
     returns
-    sub-fields-in
-    part-fields-in-start
-    part-fields-in-end
-    slice-aggregate-fields-in-2
-    fields-in-requires-2
+    sub-fields-by
+    part-fields-by-start
+    part-fields-by-end
+    slice-aggregate-fields-by-3
+    slice-aggregate-fields-by-4
+    fields-by-requires-2
     returns-2)

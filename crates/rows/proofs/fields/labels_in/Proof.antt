@@ -38,23 +38,18 @@ insertion-code-requires c κs = search needs
 insertion-code-at-requires : tie.Need-insertion-code-at-requires
 insertion-code-at-requires c κs = search needs
 
-same-length : tie.Need-same-length
-same-length c = search needs
-
 returns : tie.Need-returns
-returns c =
-    let code = c .before .before in
-    let sequence = code .before .before .before .before .before in
-    let chain = sequence .before .before .before .before .before in
-    let residue = chain .before .before .before .before .before in
-    let atom = residue .before .before .before .before .before in
-    let line = atom .before .before .before .before .before .args .line .now in
+returns c line held =
+    let sequence = c .before .before in
+    let chain = sequence .before .before in
+    let residue = chain .before .before in
+    let atom = residue .before .before in
     λ i. record {
-      atom = (atom .name-at .ensures ∙ ap (λ (k : ℕ). nameOf (tokenAt line k)) (atom .before .before .atom .ensures)) i;
-      residue = (residue .name-at2 .ensures ∙ ap (λ (k : ℕ). nameOf (tokenAt line k)) (residue .before .before .residue .ensures)) i;
-      chain = (chain .chain-at .ensures ∙ ap (λ (k : ℕ). chainOf (tokenAt line k)) (chain .before .before .chain .ensures)) i;
-      sequence = (sequence .sequence-at .ensures ∙ ap (λ (k : ℕ). sequenceOf (tokenAt line k)) (sequence .before .before .sequence .ensures)) i;
-      «insertion_code» = (code .insertion-code-at .ensures ∙ ap (insertionCodeAt line) (code .before .before .insertion-code .ensures)) i;
+      atom = (atom .name-at .ensures line held ∙ ap (λ (k : ℕ). nameOf (tokenAt line k)) (atom .before .atom .ensures)) i;
+      residue = (residue .name-at2 .ensures line held ∙ ap (λ (k : ℕ). nameOf (tokenAt line k)) (residue .before .residue .ensures)) i;
+      chain = (chain .chain-at .ensures line held ∙ ap (λ (k : ℕ). chainOf (tokenAt line k)) (chain .before .chain .ensures)) i;
+      sequence = (sequence .sequence-at .ensures line held ∙ ap (λ (k : ℕ). sequenceOf (tokenAt line k)) (sequence .before .sequence .ensures)) i;
+      «insertion_code» = (c .insertion-code-at .ensures line held ∙ ap (insertionCodeAt line) (c .before .insertion-code .ensures)) i;
     }
 
 pub labels-in-spec : {M : Type 1} → statement M
@@ -71,5 +66,4 @@ labels-in-spec =
     sequence-at-requires
     insertion-code-requires
     insertion-code-at-requires
-    same-length
     returns)

@@ -31,21 +31,16 @@ occupancy-requires c κs = search needs
 occupancy-at-requires : tie.Need-occupancy-at-requires
 occupancy-at-requires c κs = search needs
 
-same-length : tie.Need-same-length
-same-length c = search needs
-
 returns : tie.Need-returns
-returns c =
-    let occupancy = c .before .before in
-    let z = occupancy .before .before .before .before .before in
-    let y = z .before .before .before .before .before in
-    let x = y .before .before .before .before .before in
-    let line = x .before .before .before .before .before .args .line .now in
+returns c line held =
+    let z = c .before .before in
+    let y = z .before .before in
+    let x = y .before .before in
     λ i. record {
-      x = (x .coordinate-at .ensures ∙ ap (λ (k : ℕ). coordinateOf (tokenAt line k)) (x .before .before .x .ensures)) i;
-      y = (y .coordinate-at2 .ensures ∙ ap (λ (k : ℕ). coordinateOf (tokenAt line k)) (y .before .before .y .ensures)) i;
-      z = (z .coordinate-at3 .ensures ∙ ap (λ (k : ℕ). coordinateOf (tokenAt line k)) (z .before .before .z .ensures)) i;
-      occupancy = (occupancy .occupancy-at .ensures ∙ ap (occupancyAt line) (occupancy .before .before .occupancy .ensures)) i;
+      x = (x .coordinate-at .ensures line held ∙ ap (λ (k : ℕ). coordinateOf (tokenAt line k)) (x .before .x .ensures)) i;
+      y = (y .coordinate-at2 .ensures line held ∙ ap (λ (k : ℕ). coordinateOf (tokenAt line k)) (y .before .y .ensures)) i;
+      z = (z .coordinate-at3 .ensures line held ∙ ap (λ (k : ℕ). coordinateOf (tokenAt line k)) (z .before .z .ensures)) i;
+      occupancy = (c .occupancy-at .ensures line held ∙ ap (occupancyAt line) (c .before .occupancy .ensures)) i;
     }
 
 pub numbers-in-spec : {M : Type 1} → statement M
@@ -60,5 +55,4 @@ numbers-in-spec =
     coordinate-at-requires-3
     occupancy-requires
     occupancy-at-requires
-    same-length
     returns)

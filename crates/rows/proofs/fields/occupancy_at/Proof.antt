@@ -1,4 +1,4 @@
--- An absent column gives no occupancy; else it is read as the coordinates are.
+-- An absent column is not asked for; else the occupancy is the number at the column.
 use mathlib.Core.Path.{_∙_}
 use borrow.Author.Needs.{needs}
 use Rattle.rows.specs.Fields.{occupancyAt}
@@ -11,18 +11,14 @@ is-absent-requires c κs = search needs
 
 returns : tie.Need-returns
 unfolding occupancyAt
-returns c = by-true _ _ (c .before .is-absent .ensures) (c .if1 .taken)
+returns c line held = by-true _ _ (c .before .is-absent .ensures) (c .if1 .taken)
 
 coordinate-at-requires : tie.Need-coordinate-at-requires
 coordinate-at-requires c κs = search needs
 
-same-length : tie.Need-same-length
-same-length c = search needs
-
 returns-2 : tie.Need-returns-2
 unfolding occupancyAt
-returns-2 c = c .before .before .coordinate-at .ensures ∙ by-false _ _ (c .before .before .before .before .before .is-absent .ensures) (c .before .before .before .before .if1 .left)
+returns-2 c line held = c .coordinate-at .ensures line held ∙ by-false _ _ (c .before .before .is-absent .ensures) (c .before .if1 .left)
 
 pub occupancy-at-spec : {M : Type 1} → statement M
-occupancy-at-spec =
-    tie.close (tie.spec is-absent-requires returns coordinate-at-requires same-length returns-2)
+occupancy-at-spec = tie.close (tie.spec is-absent-requires returns coordinate-at-requires returns-2)

@@ -1,40 +1,32 @@
--- What stands at the front of the cell is the token.
+-- What lies between the column's two places is the token.
 use mathlib.Core.Path.{ap, _∙_}
+use Prim.Native.Nat.{_<_}
+use native.Mathlib.Omega.{arith}
 use borrow.Author.Needs.{needs}
 use Rattle.tokens.specs.Sequence.{sequenceOf}
-use Rattle.rows.proofs.TokensFitTheLine.{lent}
+use Rattle.rows.proofs.CellLaws.{lent}
 use Rattle.rows.proofs.fields.sequence_at.Statement.{statement}
 use Rattle.rows.proofs.fields.sequence_at.Tie as tie
 
-token-at-requires : tie.Need-token-at-requires
-token-at-requires c κs = search needs
+part-at-requires : tie.Need-part-at-requires
+part-at-requires c κs = search needs
 
 sub-sequence-of : tie.Need-sub-sequence-of
-sub-sequence-of c = search needs
+sub-sequence-of c = c .part-at .ensures .ordered
 
 part-sequence-of-start : tie.Need-part-sequence-of-start
-part-sequence-of-start c = search needs
+part-sequence-of-start c = c .part-at .ensures .ordered
 
 part-sequence-of-end : tie.Need-part-sequence-of-end
-part-sequence-of-end c = search needs
+part-sequence-of-end c = c .part-at .ensures .within
 
 sequence-of-requires : tie.Need-sequence-of-requires
 sequence-of-requires c κs = search needs
 
-same-length : tie.Need-same-length
-same-length c = search needs
-
 returns : tie.Need-returns
-returns c = c .sequence-of .ensures ∙ ap sequenceOf (lent (c .before .before .before .before .before .token-at .ensures))
+returns c line held =
+    let small : c .before .before .before .before .before .args .column < 256 = omega arith in
+    c .sequence-of .ensures ∙ ap sequenceOf (lent (c .before .before .part-at .ensures) small held)
 
 pub sequence-at-spec : {M : Type 1} → statement M
-sequence-at-spec =
-    tie.close
-    (tie.spec
-    token-at-requires
-    sub-sequence-of
-    part-sequence-of-start
-    part-sequence-of-end
-    sequence-of-requires
-    same-length
-    returns)
+sequence-at-spec = tie.close (tie.spec part-at-requires sub-sequence-of part-sequence-of-start part-sequence-of-end sequence-of-requires returns)

@@ -1,7 +1,7 @@
 -- The cell is as long as the line, so that it holds the first token whole; where nothing is found, there is none.
 use mathlib.Core.Path.{sym, ap, _∙_}
 use borrow.Author.Needs.{needs}
-use Rattle.rows.proofs.TokensFitTheLine.{copied, lent}
+use Rattle.tokens.proofs.TokenInFront.{copied, lent}
 use Rattle.states.specs.States.{movedByToken}
 use Rattle.states.proofs.FirstToken.{no-token, some-token}
 use Rattle.states.proofs.reading.read_within.Statement.{statement}

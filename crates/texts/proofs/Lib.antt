@@ -1,0 +1,3 @@
+pub mod EmittedLaws
+pub mod FieldLaws
+pub mod RowsInParts
