@@ -39,6 +39,8 @@ pub enum Order {
     Archive,
     /// The first order backwards.
     Reverse,
+    /// No order: each row where a fixed shuffle puts it.
+    Scattered,
 }
 
 /// A file to read: all that its text is made from.
@@ -112,6 +114,12 @@ impl File {
                 Box::new(rows.filter(|row| row.atom.is_some()).chain(waters))
             }
             Order::Reverse => Box::new(rows.rev()),
+            Order::Scattered => {
+                let shape = self.shape;
+                let mut places: Vec<usize> = (0..self.rows).collect();
+                places.sort_unstable_by_key(|&place| scattered(place as u64));
+                Box::new(places.into_iter().map(move |place| shape.row(place)))
+            }
         }
     }
 
@@ -163,6 +171,14 @@ impl Row {
         );
         written.expect("a text takes all that is written");
     }
+}
+
+/// A number that says nothing of the place, and is of no other: the steps of SplitMix64.
+fn scattered(place: u64) -> u64 {
+    let mixed = place.wrapping_mul(0x9e37_79b9_7f4a_7c15);
+    let mixed = (mixed ^ (mixed >> 30)).wrapping_mul(0xbf58_476d_1ce4_e5b9);
+    let mixed = (mixed ^ (mixed >> 27)).wrapping_mul(0x94d0_49bb_1331_11eb);
+    mixed ^ (mixed >> 31)
 }
 
 /// A, B, .. Z, AA, AB, ..

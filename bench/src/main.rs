@@ -4,6 +4,7 @@ mod files;
 mod gemmi;
 mod memory;
 mod sides;
+mod tasks;
 mod timing;
 
 use files::{CHAINS, File, ONE_CHAIN, Order, RESIDUES, Shape};
@@ -16,11 +17,12 @@ use timing::Times;
 const ROWS: [usize; 3] = [10_000, 30_000, 150_000];
 
 /// What is timed at each of these numbers.
-const GROWING: [(&str, Shape, Order); 4] = [
+const GROWING: [(&str, Shape, Order); 5] = [
     ("waters behind their chain", CHAINS, Order::Model),
     ("waters at the end", CHAINS, Order::Archive),
     ("chains backwards", CHAINS, Order::Reverse),
     ("one chain backwards", ONE_CHAIN, Order::Reverse),
+    ("rows in no order", CHAINS, Order::Scattered),
 ];
 const LARGEST: (&str, File) = (
     "waters at the end",
@@ -67,6 +69,8 @@ fn table() {
         growth(name, shape, order, &gemmi);
     }
     timed(MOST_RESIDUES.0, &MOST_RESIDUES.1, &gemmi);
+    println!();
+    tasks::table(&gemmi);
     println!();
     println!(
         "| file | side | peak, MB | of which the text and the program, MB | lent records, MB |"

@@ -43,7 +43,7 @@ pub fn measure(file: &File, text: &str, gemmi: &gemmi::Program) -> Times {
     }
 }
 
-fn median(mut times: Vec<Duration>) -> Duration {
+pub fn median(mut times: Vec<Duration>) -> Duration {
     times.sort();
     times[times.len() / 2]
 }

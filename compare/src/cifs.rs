@@ -139,8 +139,46 @@ HETATM O \"O'\" QQQ A 9 0.25 0 -3 ?
 ",
 ];
 
+/// The columns of the cases.
+const CASE_COLUMNS: &str = "group_PDB type_symbol auth_atom_id auth_comp_id auth_asym_id \
+    auth_seq_id pdbx_PDB_ins_code Cartn_x Cartn_y Cartn_z occupancy";
+/// Rows that show one rule each: which row of an atom is kept, what a residue is by its first row,
+/// its atoms and its place, and what each cell may hold.
+const CASES: [&str; 24] = [
+    "ATOM C CA MET A 7 ? 1 2 3 0.5\nATOM C CA MET A 7 ? 4 5 6 .50\n",
+    "ATOM C CA MET A 7 ? 1 2 3 0.5\nATOM N CA MET A 7 ? 4 5 6 0.51\n",
+    "ATOM C CA MET A 7 ? 1 2 3 ?\nATOM C CA MET A 7 ? 4 5 6 1\nATOM C CA MET A 7 ? 7 8 9 1.1\n",
+    "ATOM C CA MET A 7 ? 1 2 3 -1\nATOM C CA MET A 7 ? 4 5 6 -0\nATOM C CA MET A 7 ? 7 8 9 0\n",
+    "ATOM C CA MSE A 7 ? 1 2 3 1\nHETATM C CB QQQ A 7 ? 4 5 6 1\n",
+    "hetatm C CA QQQ A 7 ? 1 2 3 1\nATOM C CB QQQ A 7 ? 4 5 6 1\n",
+    "HETATM Zn ZN ZN A 7 ? 1 2 3 .5\nHETATM Zn ZN ZN A 7 ? 4 5 6 1\n",
+    "ATOM C CA QQQ A 7 ? . 2 3 1\nATOM C CA ALA A 7 ? 4 5 6 1\n",
+    "ATOM C CA QQQ A 7 ? 1 2 3 1\nHETATM C CB QQQ A 7 ? 4 5 6 1\n",
+    "ATOM C CA ALA B 5 ? 1 2 3 1\nATOM C CA GLY A 0 ? 4 5 6 1\nATOM C CA SER B -3 ? 7 8 9 1\n",
+    "ATOM C CA ALA A 5 B 1 2 3 1\nATOM C CA GLY A 5 ? 4 5 6 1\nATOM C CA SER A 5 A 7 8 9 1\n",
+    "ATOM C CA ALA A 1 ? 1 2 3 1\nATOM C CA GLY A 2 ? 4 5 6 1\nATOM C CA SER A 3 ? 7 8 9 1\n",
+    "ATOM P P DA A 1 ? 1 2 3 1\nATOM P P DC A 2 ? 4 5 6 1\nATOM P P DG A 3 ? 7 8 9 1\n",
+    "ATOM C CA ALA A 1 ? 1 2 3 1\nATOM P P A A 2 ? 4 5 6 1\nHETATM O O HOH A 3 ? 7 8 9 1\n",
+    "HETATM O O WAT A 1 ? 1 2 3 1\nATOM P P DT A 2 ? 4 5 6 1\nHETATM C C1 QQQ A 3 ? 7 8 9 1\n",
+    "ATOM C CA ALA . 7 ? 1 2 3 1\nATOM C CA GLY ? 8 ? 4 5 6 1\nATOM C CA SER '.' 9 ? 7 8 9 1\n",
+    "ATOM C CA ALA A . ? 1 2 3 1\nATOM C CB ALA A 1 . 4 5 6 1\nATOM C C ALA A 2147483648 ? 7 8 9 1\n",
+    "ATOM C CA ALA A +5 ?? 1 2 3 1\nATOM C CB ALA A 5 ?A 4 5 6 1\nATOM C C GLY A -0 .. 7 8 9 1\n",
+    "ATOM C CA ALA A -2147483648 Z 5. .5 -0 1\nATOM C CB ALA A 2147483647 9 +1 00.125 -0.000 1\n",
+    "HETATM C \"O5' x\" 'a b' \"A'\" 7 ? 1000000 -1000000.0 123456.789012345 1\n",
+    "HETATM C A\\B \\n A\\ 7 \\ 1 2 3 1\n",
+    "ATOM C CA MET A 7 ? 1 2 3\n",
+    "ATOM C CA MET A 7 ? 1 2 3 1\nATOM C CB MET A 7 ? 1 1.2.3 z 1\n",
+    "ATOM C CA MET A 7 ? 1 2 3 1 more of it\n#\nATOM C CB MET A 7 ? ? x y 1\n",
+];
+
 pub fn edges() -> Vec<Text> {
     EDGES.map(Text::from).to_vec()
+}
+
+pub fn cases() -> Vec<Text> {
+    let headers = loops::atom_items(CASE_COLUMNS).join("\n");
+    let cases = CASES.map(|rows| format!("loop_\n{headers}\n{rows}").into_bytes());
+    cases.to_vec()
 }
 
 /// How many texts there are.

@@ -1,7 +1,7 @@
-//! The proved functions of `libprobe.a`, called through C conventions: a slice is a pointer and a
+//! The proved functions of the archives, called through C conventions: a slice is a pointer and a
 //! length.
 use crate::outcomes::Outcome;
-use crate::records::Records;
+use crate::records::{Records, Room};
 use std::fmt;
 
 unsafe extern "C" {
@@ -59,6 +59,37 @@ unsafe extern "C" {
         positions_length: usize,
         occupancies: *mut f64,
         occupancies_length: usize,
+        numbers: *mut u64,
+        numbers_length: usize,
+    );
+    fn probe_write(
+        chains: *const u64,
+        chains_length: usize,
+        residue_keys: *const u64,
+        residue_keys_length: usize,
+        residue_names: *const u64,
+        residue_names_length: usize,
+        residue_codes: *const u8,
+        residue_codes_length: usize,
+        residue_categories: *const u8,
+        residue_categories_length: usize,
+        residue_positions: *const u8,
+        residue_positions_length: usize,
+        atom_keys: *const u64,
+        atom_keys_length: usize,
+        atom_names: *const u64,
+        atom_names_length: usize,
+        elements: *const u8,
+        elements_length: usize,
+        positions: *const [f64; 3],
+        positions_length: usize,
+        occupancies: *const f64,
+        occupancies_length: usize,
+        chain_count: usize,
+        residue_count: usize,
+        atom_count: usize,
+        out: *mut u8,
+        out_length: usize,
         numbers: *mut u64,
         numbers_length: usize,
     );
@@ -233,6 +264,70 @@ pub fn read(text: &[u8], records: &mut Records) -> Outcome {
         );
     }
     Outcome::of_numbers(numbers)
+}
+
+/// What became of a model's text.
+#[derive(Debug, Clone, Copy, PartialEq, Eq)]
+pub enum Writing {
+    /// So many bytes were written.
+    Written(usize),
+    /// The refusal's number and detail.
+    Refused(u64, u64),
+}
+
+/// Writes the model of that room in the records.
+pub fn write(records: &mut Records, model: Room, out: &mut [u8]) -> Writing {
+    let mut numbers = [u64::MAX; 3];
+    let chains = records.chains.slice();
+    let residue_keys = records.residue_keys.slice();
+    let residue_names = records.residue_names.slice();
+    let residue_codes = records.residue_codes.slice();
+    let residue_categories = records.residue_categories.slice();
+    let residue_positions = records.residue_positions.slice();
+    let atom_keys = records.atom_keys.slice();
+    let atom_names = records.atom_names.slice();
+    let elements = records.elements.slice();
+    let positions = records.positions.slice();
+    let occupancies = records.occupancies.slice();
+    // SAFETY: the function reads the slices, and writes `out` and `numbers` alone, which are distinct
+    // from them.
+    unsafe {
+        probe_write(
+            chains.as_ptr(),
+            chains.len(),
+            residue_keys.as_ptr(),
+            residue_keys.len(),
+            residue_names.as_ptr(),
+            residue_names.len(),
+            residue_codes.as_ptr(),
+            residue_codes.len(),
+            residue_categories.as_ptr(),
+            residue_categories.len(),
+            residue_positions.as_ptr(),
+            residue_positions.len(),
+            atom_keys.as_ptr(),
+            atom_keys.len(),
+            atom_names.as_ptr(),
+            atom_names.len(),
+            elements.as_ptr(),
+            elements.len(),
+            positions.as_ptr(),
+            positions.len(),
+            occupancies.as_ptr(),
+            occupancies.len(),
+            model.chains,
+            model.residues,
+            model.atoms,
+            out.as_mut_ptr(),
+            out.len(),
+            numbers.as_mut_ptr(),
+            numbers.len(),
+        );
+    }
+    match numbers {
+        [0, 0, written] => Writing::Written(written as usize),
+        [number, detail, _] => Writing::Refused(number, detail),
+    }
 }
 
 /// A packed name has its first byte highest, and zeros after its last.

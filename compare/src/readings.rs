@@ -8,6 +8,7 @@ use crate::structures::Model;
 use crate::{answers, elements};
 use published::io::error::Error;
 use published::io::mmcif::reader::{self, Rows};
+use published::model::structure::Structure;
 
 pub const LONGEST_TEXT: usize = 16_777_216;
 pub const LONGEST_LINE: usize = 2_048;
@@ -25,6 +26,8 @@ pub struct Reading {
     pub outcome: Outcome,
     /// Empty after a refusal.
     pub model: Model,
+    /// The published structure that the model is of.
+    pub structure: Structure,
     /// The bits of the occupancies of the atoms in their order.
     pub occupancies: Vec<u64>,
     /// Whether some row has a symbol that is an element to the published Rust alone.
@@ -36,13 +39,14 @@ pub fn read(text: &[u8], room: Room) -> Reading {
     let mut walk = Walk::new(room);
     let outcome = walk.text(text);
     let symbols_differ = walk.symbols_differ;
-    let (model, occupancies) = match outcome {
+    let (structure, occupancies) = match outcome {
         Ok(_) => walk.finish(),
         Err(_) => Default::default(),
     };
     Reading {
         outcome: outcome.map_or_else(Outcome::Refused, Outcome::Read),
-        model,
+        model: Model::of_published(&structure),
+        structure,
         occupancies,
         symbols_differ,
     }
@@ -180,12 +184,12 @@ impl Walk {
         Ok(self.counts)
     }
 
-    fn finish(self) -> (Model, Vec<u64>) {
+    fn finish(self) -> (Structure, Vec<u64>) {
         let occupancies = self.rows.occupancies().into_iter().map(f64::to_bits);
         let occupancies = occupancies.collect();
         let structure = self.rows.structure(&answers::CONTEXT);
         let structure = structure.expect("there is no unknown residue");
-        (Model::of_published(&structure), occupancies)
+        (structure, occupancies)
     }
 
     fn line(&mut self, line: &[u8], number: usize) -> Result<(), Refusal> {

@@ -120,6 +120,7 @@ trait Slice {
     fn resize(&mut self, room: usize);
     /// Whether all is zero from the count to the end of the slice, and as it was behind that.
     fn is_clear_past(&self, count: usize) -> bool;
+    fn is_untouched(&self) -> bool;
 }
 
 impl<T: Entry> Slice for Lent<T> {
@@ -139,6 +140,11 @@ impl<T: Entry> Slice for Lent<T> {
         };
         rest.iter().all(|entry| entry.words() == [0; 3])
             && behind.iter().all(|entry| entry.words() == dirt)
+    }
+
+    fn is_untouched(&self) -> bool {
+        let dirt = T::of_word(DIRT).words();
+        self.entries.iter().all(|entry| entry.words() == dirt)
     }
 }
 
@@ -239,6 +245,11 @@ impl Records {
         let mut clear =
             slices.map(|(field, slice)| slice.is_clear_past(*field.of_room(&mut filled)));
         clear.all(|clear| clear)
+    }
+
+    /// Whether all records are as dirty as they were.
+    pub fn are_untouched(&mut self) -> bool {
+        self.slices().iter().all(|slice| slice.is_untouched())
     }
 
     /// In the order of the fields.

@@ -1,13 +1,24 @@
 //! The stored list: questions, and the published Rust's answers to them, which the proved program
 //! `replay` has to give as well.
+use crate::outcomes::{Outcome, Reason};
+use crate::records::Room;
+use crate::structures::Model;
 use crate::texts::Text;
-use crate::{answers, decimals, doubles, elements, lines, names, tokens};
+use crate::{answers, cifs, decimals, doubles, elements, lines, names, readings, tokens};
 use std::path::PathBuf;
 
 /// What the program reads at once, with some bytes left.
-pub const MOST_BYTES: usize = 62_000;
+pub const MOST_BYTES: usize = 262_000;
 /// The longest line to split, so that the list stays small.
 const LONGEST: usize = 100;
+/// The longest text to read, which the program has room for.
+const LONGEST_TEXT: usize = 1_000;
+/// The records of the program.
+const ROOM: Room = Room {
+    chains: 64,
+    residues: 64,
+    atoms: 64,
+};
 
 const TEXTS_OF_A_FAMILY: usize = 61;
 const DOUBLES_OF_A_FAMILY: usize = 79;
@@ -16,6 +27,7 @@ const NAMES_OF_A_FAMILY: usize = 47;
 const SEQUENCES_OF_A_FAMILY: usize = 23;
 const RESIDUES_OF_A_FAMILY: usize = 17;
 const ELEMENTS_OF_A_FAMILY: usize = 19;
+const SMALL_TEXTS: usize = 160;
 
 /// One question to a line, and its answer on the same line of the other text.
 #[derive(Default)]
@@ -35,6 +47,7 @@ pub fn stored() -> Stored {
     stored.numbers();
     stored.tokens();
     stored.names();
+    stored.texts();
     stored
 }
 
@@ -105,6 +118,21 @@ impl Stored {
         });
     }
 
+    /// The edges, the cases, and the small texts of every family in turn, as far as they are short.
+    fn texts(&mut self) {
+        let short = |text: &Text| text.len() <= LONGEST_TEXT;
+        let small = (0..)
+            .map(cifs::text)
+            .filter(short)
+            .filter(|text| is_read_alike(text));
+        let small = small.take(SMALL_TEXTS);
+        let mut texts = [cifs::edges(), cifs::cases()].concat();
+        texts.retain(|text| is_read_alike(text));
+        texts.extend(small);
+        let escaped = texts.iter().map(|text| escaped(text)).collect::<Vec<_>>();
+        self.ask("structure", &escaped, texts.iter().map(|text| read(text)));
+    }
+
     fn ask_each(&mut self, question: &str, texts: &[Text], answer: impl Fn(&Text) -> String) {
         self.ask(question, texts, texts.iter().map(answer));
     }
@@ -115,6 +143,41 @@ impl Stored {
             self.answers += &(answer + "\n");
         }
     }
+}
+
+/// Whether no limit is passed that the published Rust lacks, and no symbol is an element to it alone.
+fn is_read_alike(text: &[u8]) -> bool {
+    let reading = readings::read(text, ROOM);
+    let alike = match reading.outcome {
+        Outcome::Read(_) => true,
+        Outcome::Refused(refusal) => refusal.reason.is_shared(),
+    };
+    alike && !reading.symbols_differ
+}
+
+/// What the published Rust makes of the whole text. It says which residue it does not know, not which
+/// place it has.
+fn read(text: &[u8]) -> String {
+    let error = match answers::read(text) {
+        Ok(structure) => return format!("read{}", Model::of_published(&structure)),
+        Err(error) => error,
+    };
+    let refusal = readings::refusal_of(&error).expect("a text is refused by a known error");
+    match refusal.reason {
+        Reason::UnknownResidue => format!("refused {}", refusal.reason as u64),
+        _ => Outcome::Refused(refusal).to_string(),
+    }
+}
+
+/// The text with its lines on one line: byte 10 is written `\n`, byte 13 `\r`, and `\` is doubled.
+fn escaped(text: &[u8]) -> Text {
+    let bytes = text.iter().flat_map(|byte| match byte {
+        b'\n' => b"\\n".to_vec(),
+        b'\r' => b"\\r".to_vec(),
+        b'\\' => b"\\\\".to_vec(),
+        _ => vec![*byte],
+    });
+    bytes.collect()
 }
 
 /// The edges, and a few of what is wanted of each family.

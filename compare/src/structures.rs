@@ -5,6 +5,7 @@ use crate::probe::unpacked;
 use crate::records::Records;
 use published::model::structure::Structure;
 use published::model::types::{ResidueCategory, ResiduePosition};
+use std::fmt;
 
 /// Which residue of the structure one is: the chain's place, the sequence number and the insertion
 /// code.
@@ -105,6 +106,41 @@ impl Model {
             .or_else(|| first_difference(&self.atoms, &other.atoms))
             .unwrap_or_else(|| "no difference".to_string())
     }
+}
+
+/// As the stored answers have it: a word and its fields to each record, numbers but for the names, which
+/// follow their lengths, and for the bits of the coordinates.
+impl fmt::Display for Model {
+    fn fmt(&self, formatter: &mut fmt::Formatter<'_>) -> fmt::Result {
+        for chain in &self.chains {
+            write!(formatter, " chain {}:{chain}", chain.len())?;
+        }
+        for residue in &self.residues {
+            let (key, name) = (shown(residue.key), &residue.name);
+            write!(formatter, " residue {key} {}:{name}", name.len())?;
+            let (code, category) = (residue.code, residue.category);
+            write!(formatter, " {code} {category} {}", residue.position)?;
+        }
+        for atom in &self.atoms {
+            let (key, name) = (shown(atom.residue), &atom.name);
+            write!(
+                formatter,
+                " atom {key} {}:{name} {}",
+                name.len(),
+                atom.element
+            )?;
+            for bits in atom.position {
+                write!(formatter, " {bits:016x}")?;
+            }
+        }
+        Ok(())
+    }
+}
+
+/// The chain's place, the sequence number moved up by 2^31, and the insertion code, 0 for none.
+fn shown((place, sequence, code): Key) -> String {
+    let moved = sequence.abs_diff(i32::MIN);
+    format!("{place} {moved} {}", code.map_or(0, u32::from))
 }
 
 fn first_difference<T: PartialEq + std::fmt::Debug>(one: &[T], two: &[T]) -> Option<String> {

@@ -20,6 +20,10 @@ impl Tally {
         }
     }
 
+    pub fn compared(&self) -> usize {
+        self.compared
+    }
+
     pub fn is_empty(&self) -> bool {
         self.compared == 0
     }

@@ -9,7 +9,7 @@ use Rattle.model.specs.declared.room.Room.{Room}
 use Rattle.model.specs.Room.{noRoom}
 use Rattle.building.specs.declared.sites.Counts.{Counts}
 use Rattle.building.specs.declared.sites.Places.{Places}
-use Rattle.building.specs.Sites.{isNew, isNewChain, lackOf, oneMore}
+use Rattle.building.specs.Sites.{isNewChain, lackOf, oneMore}
 
 -- ---- one more
 module _ (n : ℕ) where
@@ -37,10 +37,10 @@ module _ (room : Room) (c : Counts) (p : Places) where
   noChain = noRoom (isNewChain c p) (room .chains) (c .chains)
 
   abbrev pub noResidue : Bool
-  noResidue = noRoom (isNew (p .residue)) (room .residues) (c .residues)
+  noResidue = noRoom (p .residue .new) (room .residues) (c .residues)
 
   abbrev pub noAtom : Bool
-  noAtom = noRoom (isNew (p .atom)) (room .atoms) (c .atoms)
+  noAtom = noRoom (p .atom .new) (room .atoms) (c .atoms)
 
   pub lacks-chain : noChain ≡ true → lackOf room c p ≡ 1
   unfolding lackOf

@@ -3,8 +3,10 @@ pub mod AtomPlaces
 pub mod ChainLaws
 pub mod ChainsHeld
 pub mod CountLaws
+pub mod GapsHeld
+pub mod GatheringLaws
 pub mod MapPlaces
 pub mod ResidueLaws
 pub mod RoomInSlices
+pub mod ShownAlike
 pub mod SiteLaws
-pub mod SliceLaws

@@ -5,18 +5,16 @@ use mathlib.Core.Bool.{true}
 use mathlib.Core.List.{List, [], _∷_, map}
 use mathlib.Core.Option.{Option, none, some}
 use Prim.Native.Nat.{ℕ, suc, _≤_, _<_}
-use native.Mathlib.Numerals.{add-one}
 use lib.Dec.{ltb}
 use lib.ListN.{length, take, getD, set, length-map, List·getD-map}
-use lib.Seq.{take-set-lt, set-getD}
+use lib.Seq.{set-getD}
 use borrow.Author.Tests.{lt-ltb, ltb-true}
 use Rattle.records.specs.declared.places.Place.{Place}
 use Rattle.records.specs.declared.places.Place.the-variants.{At, Before}
-use Rattle.records.specs.Insertion.{ins, inserted}
+use Rattle.records.specs.Insertion.{ins}
 use Rattle.records.specs.Places.{Ascending, placeIn}
 use Rattle.records.proofs.OrderLaws.{numbers}
 use Rattle.records.proofs.PlaceLaws.{Says, place-says}
-use Rattle.records.proofs.InsertionLaws.{first-inserted}
 use Rattle.records.proofs.MapLaws.{map-ins, map-set}
 use Rattle.model.specs.Map.{Entry, Map, find, put, AscendingFrom}
 use Rattle.model.proofs.PutByIndex as index
@@ -80,14 +78,10 @@ module _ {W : Type 0} where
         (λ v. ltb-true k (getD m i past .key) (ap (ltb k) (sym (key-at i)) ∙ w .1 .1 (subst (λ (n : ℕ). i < n) (sym long) v))) in
         record { inside = h; found = q .0; puts = q .1 }
 
-  -- ---- a field of the entries
-  module _ {A : Type 0} (field : Entry W → A) (l : List A) (n i : ℕ) (x : Entry W) (m : Map W) where
-    pub field-ins : Field field l n m → i ≤ n → n < length l → Field field (inserted l n i (field x)) (suc n) (ins i x m)
-    field-ins e h k =
-        ap (λ (j : ℕ). take j (inserted l n i (field x))) (sym (add-one n))
-        ∙ first-inserted l n i (field x) h k
-        ∙ ap (ins i (field x)) e
-        ∙ sym (map-ins field i x m)
+  -- ---- a field of the entries, and of those afterwards
+  module _ {A : Type 0} (field : Entry W → A) (l l′ : List A) (n n′ i : ℕ) (x : Entry W) (m : Map W) (e : Field field l n m) where
+    pub field-ins : take n′ l′ ≡ ins i (field x) (take n l) → Field field l′ n′ (ins i x m)
+    field-ins q = q ∙ ap (ins i (field x)) e ∙ sym (map-ins field i x m)
 
-    pub field-set : Field field l n m → i < n → Field field (set l i (field x)) n (set m i x)
-    field-set e h = take-set-lt n l i (field x) h ∙ ap (λ (t : List A). set t i (field x)) e ∙ sym (map-set field m i x)
+    pub field-set : take n′ l′ ≡ set (take n l) i (field x) → Field field l′ n′ (set m i x)
+    field-set q = q ∙ ap (λ (t : List A). set t i (field x)) e ∙ sym (map-set field m i x)

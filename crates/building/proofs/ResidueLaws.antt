@@ -1,43 +1,61 @@
 -- A residue that is there stays, and a new one goes in at its place in every slice: that is the put of the model.
 use mathlib.Core.Path.{_≡_, refl, sym, ap, _∙_, subst}
-use mathlib.Core.Bool.{true, cond}
+use mathlib.Core.Bool.{cond}
 use mathlib.Core.List.{List}
-use Prim.Native.Nat.{ℕ, suc, _≤_, _<_}
+use Prim.Native.Nat.{ℕ, suc}
 use native.Mathlib.Omega.{arith}
 use lib.Dec.{ltb}
-use lib.ListN.{length}
+use lib.ListN.{take}
 use Rattle.rows.specs.declared.rules.Site.{Site}
 use Rattle.records.specs.declared.places.Place.{Place}
 use Rattle.records.specs.declared.places.Place.the-variants.{At, Before}
-use Rattle.records.specs.Insertion.{inserted}
+use Rattle.gaps.specs.declared.spots.Spot.{Spot}
+use Rattle.gaps.specs.Gaps.{withNew}
 use Rattle.records.specs.Places.{placeIn}
+use Rattle.gaps.specs.Spots.{spotOf}
 use Rattle.records.proofs.InsertionLaws.{length-ins}
 use Rattle.model.specs.Fold.{Residue, residueOf, first}
 use Rattle.model.specs.Lists.{count}
 use Rattle.model.specs.Map.{Entry, Map, put, Ascending}
 use Rattle.model.proofs.MapLaws.{ascending-put}
 use Rattle.building.specs.Holds.{HoldsResidues}
-use Rattle.building.specs.Sites.{isNew}
-use Rattle.building.specs.Slices.{newAt}
 use Rattle.building.proofs.MapPlaces.{keys, there, new, field-ins}
 
-module _ (ks names marks : List ℕ) (n : ℕ) (m : Map Residue) (s : Site) (k : ℕ) where
-  pub residue-put : HoldsResidues ks names marks n m → (place : Place) → place ≡ placeIn ltb k (keys m)
-      → (isNew place ≡ true → (n < length ks) × (n < length names) × (n < length marks))
-      → HoldsResidues (newAt place n k ks) (newAt place n (s .residue) names) (newAt place n (count (s .hetatm)) marks) (cond (isNew place) (suc n) n) (put k (first s) m)
-  residue-put h (At i) e room =
+-- the slices before and afterwards
+module _ (ks names marks ks′ names′ marks′ : List ℕ) (n : ℕ) (m : Map Residue) (s : Site) (k : ℕ) where
+  put-by-place : HoldsResidues ks names marks n m → (place : Place) → place ≡ placeIn ltb k (keys m)
+      → let spot = spotOf place in let n′ = cond (spot .new) (suc n) n in
+      take n′ ks′ ≡ withNew spot k (take n ks) → take n′ names′ ≡ withNew spot (s .residue) (take n names) → take n′ marks′ ≡ withNew spot (count (s .hetatm)) (take n marks)
+      → HoldsResidues ks′ names′ marks′ n′ (put k (first s) m)
+  put-by-place h (At i) e e0 e1 e2 =
       let t = there k (first s) m i e in
-      subst (HoldsResidues ks names marks n) (sym (t .puts (first s) ∙ t .stays)) h
-  residue-put h (Before i) e room =
+      subst (HoldsResidues ks′ names′ marks′ n) (sym (t .puts (first s) ∙ t .stays))
+      (record {
+        many = h .many;
+        ascending = h .ascending;
+        keysHeld = e0 ∙ h .keysHeld;
+        namesHeld = e1 ∙ h .namesHeld;
+        marksHeld = e2 ∙ h .marksHeld;
+      })
+  put-by-place h (Before i) e e0 e1 e2 =
       let t = new k (first s) m i e in
       let x : Entry Residue = record { key = k; value = residueOf s } in
-      let w = room refl in
-      let j : i ≤ n = omega (arith, t .inside, h .many) in
-      subst (HoldsResidues (inserted ks n i k) (inserted names n i (s .residue)) (inserted marks n i (count (s .hetatm))) (suc n)) (sym (t .puts))
+      subst (HoldsResidues ks′ names′ marks′ (suc n)) (sym (t .puts))
       (record {
         many = ap suc (h .many) ∙ sym (length-ins i x m (t .inside));
         ascending = subst Ascending (t .puts) (ascending-put k (first s) 0 m (omega arith) (h .ascending));
-        keysHeld = field-ins (λ e. e .key) ks n i x m (h .keysHeld) j (w .0);
-        namesHeld = field-ins (λ e. e .value .name) names n i x m (h .namesHeld) j (w .1);
-        marksHeld = field-ins (λ e. count (e .value .hetatm)) marks n i x m (h .marksHeld) j (w .2);
+        keysHeld = field-ins (λ e. e .key) ks ks′ n (suc n) i x m (h .keysHeld) e0;
+        namesHeld = field-ins (λ e. e .value .name) names names′ n (suc n) i x m (h .namesHeld) e1;
+        marksHeld = field-ins (λ e. count (e .value .hetatm)) marks marks′ n (suc n) i x m (h .marksHeld) e2;
       })
+
+  pub residue-put : HoldsResidues ks names marks n m → (spot : Spot) → spot ≡ spotOf (placeIn ltb k (keys m))
+      → let n′ = cond (spot .new) (suc n) n in
+      take n′ ks′ ≡ withNew spot k (take n ks) → take n′ names′ ≡ withNew spot (s .residue) (take n names) → take n′ marks′ ≡ withNew spot (count (s .hetatm)) (take n marks)
+      → HoldsResidues ks′ names′ marks′ n′ (put k (first s) m)
+  residue-put h spot e =
+      subst
+      (λ (t : Spot). let n′ = cond (t .new) (suc n) n in
+      take n′ ks′ ≡ withNew t k (take n ks) → take n′ names′ ≡ withNew t (s .residue) (take n names) → take n′ marks′ ≡ withNew t (count (s .hetatm)) (take n marks)
+      → HoldsResidues ks′ names′ marks′ n′ (put k (first s) m))
+      (sym e) (put-by-place h (placeIn ltb k (keys m)) refl)

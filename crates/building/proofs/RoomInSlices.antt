@@ -1,23 +1,21 @@
 -- Something new has room in every slice where it has room in the shortest, and no slice becomes longer or shorter.
 use mathlib.Core.Path.{_≡_, refl, sym, ap, _∙_, subst}
 use mathlib.Core.Bool.{Bool, true, false, cond, _&&_}
-use mathlib.Core.List.{List}
 use Prim.Native.Nat.{ℕ, suc, _≤_, _<_}
+use native.Mathlib.Nat.{le-trans}
 use native.Mathlib.Omega.{arith}
 use lib.Dec.{leb}
 use lib.ListN.{length, length-set}
 use borrow.Author.Tests.{leb-false}
 use Rattle.rows.specs.declared.rules.Site.{Site}
-use Rattle.records.specs.declared.places.Place.{Place}
-use Rattle.records.specs.declared.places.Place.the-variants.{At, Before}
-use Rattle.records.proofs.InsertionLaws.{length-inserted}
 use Rattle.model.specs.declared.room.Room.{Room}
 use Rattle.model.specs.Room.{noRoom}
-use Rattle.building.specs.declared.sites.Counts.{Counts}
+use Rattle.building.specs.declared.held.Held.{Held}
 use Rattle.building.specs.declared.sites.Places.{Places}
+use Rattle.building.specs.Gaps.{gathered}
 use Rattle.building.specs.Holds.{Records, Within, SameLengths}
-use Rattle.building.specs.Sites.{placed}
-use Rattle.building.specs.Slices.{newAt, betterAt}
+use Rattle.building.specs.Sites.{Placed}
+use Rattle.building.proofs.GapsHeld.{length-closed-up}
 
 module _ (new : Bool) (room n : ℕ) where
   pub room-beside : noRoom new room n ≡ false → new ≡ true → n < room
@@ -35,37 +33,18 @@ module _ (room : Room) (r : Records) (w : Within room r) (n : ℕ) where
   pub chain-room : n < room .chains → n < length (r .chains)
   chain-room h = omega (arith, w .chains)
 
-  pub residue-room : n < room .residues → (n < length (r .residueKeys)) × (n < length (r .residueNames)) × (n < length (r .residueMarks))
-  residue-room h = let q = w .residues in (omega (arith, q .0), omega (arith, q .1), omega (arith, q .2))
-
-  pub atom-room : n < room .atoms
-      → (n < length (r .atomKeys)) × (n < length (r .atomNames)) × (n < length (r .elements)) × (n < length (r .positions)) × (n < length (r .occupancies))
-  atom-room h =
-      let q = w .atoms in
-      (omega (arith, q .0), omega (arith, q .1), omega (arith, q .2), omega (arith, q .3), omega (arith, q .4))
-
 -- ---- afterwards
-module _ {A : Type 0} (n : ℕ) (v : A) (l : List A) where
-  length-new : (p : Place) → length (newAt p n v l) ≡ length l
-  length-new (At i) = refl
-  length-new (Before i) = length-inserted l n i v
-
-  length-better : (p : Place) (b : Bool) → length (betterAt p b n v l) ≡ length l
-  length-better (At i) true = length-set l i v
-  length-better (At i) false = refl
-  length-better (Before i) b = length-inserted l n i v
-
-pub lengths-stay : (r : Records) (c : Counts) (p : Places) (s : Site) → SameLengths r (placed r c p s)
-lengths-stay r c p s = record {
-  chains = length-set (r .chains) (p .chain) (s .chain);
-  residueKeys = length-new (c .residues) (p .key) (r .residueKeys) (p .residue);
-  residueNames = length-new (c .residues) (s .residue) (r .residueNames) (p .residue);
-  residueMarks = length-new (c .residues) _ (r .residueMarks) (p .residue);
-  atomKeys = length-new (c .atoms) (p .key) (r .atomKeys) (p .atom);
-  atomNames = length-new (c .atoms) (s .atom) (r .atomNames) (p .atom);
-  elements = length-better (c .atoms) (s .element) (r .elements) (p .atom) _;
-  positions = length-better (c .atoms) _ (r .positions) (p .atom) _;
-  occupancies = length-better (c .atoms) (s .occupancy) (r .occupancies) (p .atom) _;
+pub lengths-stay : {r : Records} {h : Held} {p : Places} {s : Site} {after : Records} → Placed r h p s after → SameLengths r after
+lengths-stay {r} {h} {p} {s} {after} e = record {
+  chains = ap length (e .chains) ∙ length-set (r .chains) (p .chain) (s .chain);
+  residueKeys = e .residueKeys .long;
+  residueNames = e .residueNames .long;
+  residueMarks = e .residueMarks .long;
+  atomKeys = e .atomKeys .long;
+  atomNames = e .atomNames .long;
+  elements = e .elements .long;
+  positions = e .positions .long;
+  occupancies = e .occupancies .long;
 }
 
 as-long : {m k : ℕ} (n : ℕ) → m ≡ k → n ≤ k → n ≤ m
@@ -90,4 +69,24 @@ room-stays room r after e w =
         as-long atoms (e .positions) (w .atoms .3),
         as-long atoms (e .occupancies) (w .atoms .4),
       );
+    }
+
+-- ---- with the gaps closed
+pub lengths-closed : (room : Room) (r : Records) (h : Held) → Within room r → h .behind .residues ≤ h .counts .residues → h .behind .atoms ≤ h .counts .atoms
+    → h .counts .residues ≤ room .residues → h .counts .atoms ≤ room .atoms → SameLengths r (gathered h r)
+lengths-closed room r h w b d m n =
+    let residues = h .counts .residues in
+    let behind = h .behind .residues in
+    let atoms = h .counts .atoms in
+    let atomsBehind = h .behind .atoms in
+    record {
+      chains = refl;
+      residueKeys = length-closed-up residues behind (r .residueKeys) b (le-trans m (w .residues .0));
+      residueNames = length-closed-up residues behind (r .residueNames) b (le-trans m (w .residues .1));
+      residueMarks = length-closed-up residues behind (r .residueMarks) b (le-trans m (w .residues .2));
+      atomKeys = length-closed-up atoms atomsBehind (r .atomKeys) d (le-trans n (w .atoms .0));
+      atomNames = length-closed-up atoms atomsBehind (r .atomNames) d (le-trans n (w .atoms .1));
+      elements = length-closed-up atoms atomsBehind (r .elements) d (le-trans n (w .atoms .2));
+      positions = length-closed-up atoms atomsBehind (r .positions) d (le-trans n (w .atoms .3));
+      occupancies = length-closed-up atoms atomsBehind (r .occupancies) d (le-trans n (w .atoms .4));
     }

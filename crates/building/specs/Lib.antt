@@ -1,3 +1,4 @@
+pub mod Gaps
 pub mod Holds
 pub mod Sites
 pub mod Slices

@@ -1,14 +1,14 @@
 -- What a site does to the lent slices and the counts.
 use mathlib.Core.Path.{_≡_}
-use mathlib.Core.Bool.{Bool, true, false, not, _&&_, cond}
+use mathlib.Core.Bool.{Bool, true, not, _&&_, cond}
 use mathlib.Core.List.{List}
-use Prim.Native.Nat.{ℕ, suc, _^_, _≤_, _<_}
+use Prim.Native.Nat.{ℕ, suc, _+_, _-_, _^_, _≤_, _<_}
 use lib.Dec.{leb, ltb}
-use lib.ListN.{take, set}
+use lib.ListN.{length, take, set}
 use Rattle.rows.specs.declared.rules.Site.{Site}
-use Rattle.records.specs.declared.places.Place.{Place}
-use Rattle.records.specs.declared.places.Place.the-variants.{At, Before}
-use Rattle.records.specs.Places.{Found, pairs, below}
+use Rattle.gaps.specs.Gaps.{closed, PutIn}
+use Rattle.records.specs.Places.{pairs, below}
+use Rattle.gaps.specs.Spots.{Spotted}
 use Rattle.model.specs.Fold.{State, step}
 use Rattle.model.specs.Keys.{residueKey}
 use Rattle.model.specs.Lent.{coordinates}
@@ -17,90 +17,102 @@ use Rattle.model.specs.Proper.{Proper}
 use Rattle.model.specs.declared.room.Room.{Room}
 use Rattle.model.specs.Room.{noRoom, lacking}
 use Rattle.model.specs.Taken.{site}
+use Rattle.building.specs.declared.held.Held.{Held}
 use Rattle.building.specs.declared.sites.Counts.{Counts}
 use Rattle.building.specs.declared.sites.Places.{Places}
 use Rattle.building.specs.declared.sites.Put.{Put}
 use Rattle.building.specs.declared.sites.Put.the-variants.{NoRoom, Done}
-use Rattle.building.specs.Holds.{Records, SameLengths, Holds}
-use Rattle.building.specs.Slices.{ChainFound, newAt, betterAt, outdoes}
+use Rattle.building.specs.Gaps.{HoldsApart}
+use Rattle.building.specs.Holds.{Records, SameLengths}
+use Rattle.building.specs.Slices.{ChainFound, Betters}
 
 -- ---- where it goes
 
--- the place is for something that is not there
-abbrev pub isNew : Place → Bool
-isNew (At i) = false
-isNew (Before i) = true
+-- how many residues and atoms come before their gaps
+abbrev pub residuesBefore : Held → ℕ
+residuesBefore h = h .counts .residues - h .behind .residues
+
+abbrev pub atomsBefore : Held → ℕ
+atomsBefore h = h .counts .atoms - h .behind .atoms
 
 -- the chain is not there
 abbrev pub isNewChain : Counts → Places → Bool
 isNewChain c p = leb (c .chains) (p .chain)
 
--- the places of a site, as the searches say them
-pub record PlacesFound (chains residueKeys atomKeys atomNames : List ℕ) (c : Counts) (s : Site) (p : Places) : Type 0 where
-  pub chain : ChainFound (take (c .chains) chains) (s .chain) (p .chain)
+-- the places of a site, as the searches say them, in slices that are long enough
+pub record PlacesFound (chains residueKeys atomKeys atomNames : List ℕ) (h : Held) (s : Site) (p : Places) : Type 0 where
+  pub chain : ChainFound (take (h .counts .chains) chains) (s .chain) (p .chain)
   pub key : p .chain ≤ 4096 → p .key ≡ residueKey (p .chain) (s .sequence) (s .«insertion_code»)
-  pub residue : Found ltb (take (c .residues) residueKeys) (p .key) (p .residue)
-  pub atom : Found below (take (c .atoms) (pairs atomKeys atomNames)) (p .key, s .atom) (p .atom)
+  pub residue : residuesBefore h + h .behind .residues ≤ length residueKeys → Spotted ltb (closed (residuesBefore h) (h .behind .residues) residueKeys) (p .key) (p .residue)
+  pub atom : atomsBefore h + h .behind .atoms ≤ length atomKeys → atomsBefore h + h .behind .atoms ≤ length atomNames
+      → Spotted below (pairs (closed (atomsBefore h) (h .behind .atoms) atomKeys) (closed (atomsBefore h) (h .behind .atoms) atomNames)) (p .key, s .atom) (p .atom)
 
 -- what has no room: 1 its chain, 2 its residue, 3 its atom, 0 none of them
 unfoldable pub lackOf : Room → Counts → Places → ℕ
 lackOf room c p =
     cond (noRoom (isNewChain c p) (room .chains) (c .chains)) 1
-    (cond (noRoom (isNew (p .residue)) (room .residues) (c .residues)) 2
-    (cond (noRoom (isNew (p .atom)) (room .atoms) (c .atoms)) 3 0))
+    (cond (noRoom (p .residue .new) (room .residues) (c .residues)) 2
+    (cond (noRoom (p .atom .new) (room .atoms) (c .atoms)) 3 0))
 
 -- ---- what it leaves
 
 -- a chain that is there is stored where it stands
-abbrev pub placed : Records → Counts → Places → Site → Records
-placed r c p s =
-    let better = outdoes (p .atom) (r .occupancies) (s .occupancy) in
-    record {
-      chains = set (r .chains) (p .chain) (s .chain);
-      residueKeys = newAt (p .residue) (c .residues) (p .key) (r .residueKeys);
-      residueNames = newAt (p .residue) (c .residues) (s .residue) (r .residueNames);
-      residueMarks = newAt (p .residue) (c .residues) (count (s .hetatm)) (r .residueMarks);
-      atomKeys = newAt (p .atom) (c .atoms) (p .key) (r .atomKeys);
-      atomNames = newAt (p .atom) (c .atoms) (s .atom) (r .atomNames);
-      elements = betterAt (p .atom) better (c .atoms) (s .element) (r .elements);
-      positions = betterAt (p .atom) better (c .atoms) (coordinates (s .position)) (r .positions);
-      occupancies = betterAt (p .atom) better (c .atoms) (s .occupancy) (r .occupancies);
-    }
+pub record Placed (r : Records) (h : Held) (p : Places) (s : Site) (after : Records) : Type 0 where
+  pub chains : after .chains ≡ set (r .chains) (p .chain) (s .chain)
+  pub residueKeys : PutIn (residuesBefore h) (h .behind .residues) (p .residue) (p .key) (r .residueKeys) (after .residueKeys)
+  pub residueNames : PutIn (residuesBefore h) (h .behind .residues) (p .residue) (s .residue) (r .residueNames) (after .residueNames)
+  pub residueMarks : PutIn (residuesBefore h) (h .behind .residues) (p .residue) (count (s .hetatm)) (r .residueMarks) (after .residueMarks)
+  pub atomKeys : PutIn (atomsBefore h) (h .behind .atoms) (p .atom) (p .key) (r .atomKeys) (after .atomKeys)
+  pub atomNames : PutIn (atomsBefore h) (h .behind .atoms) (p .atom) (s .atom) (r .atomNames) (after .atomNames)
+  pub elements : Betters (atomsBefore h) (h .behind .atoms) (p .atom) (s .occupancy) (r .occupancies) (s .element) (r .elements) (after .elements)
+  pub positions : Betters (atomsBefore h) (h .behind .atoms) (p .atom) (s .occupancy) (r .occupancies) (coordinates (s .position)) (r .positions) (after .positions)
+  pub occupancies : Betters (atomsBefore h) (h .behind .atoms) (p .atom) (s .occupancy) (r .occupancies) (s .occupancy) (r .occupancies) (after .occupancies)
 
 -- one more where that is so, up to the greatest number that there is
 unfoldable pub oneMore : Bool → ℕ → ℕ
 oneMore more n = cond (more && ltb n 18446744073709551615) (suc n) n
 
-abbrev pub counted : Counts → Places → Bool → Counts
-counted c p assumed = record {
-  chains = oneMore (isNewChain c p) (c .chains);
-  residues = oneMore (isNew (p .residue)) (c .residues);
-  atoms = oneMore (isNew (p .atom)) (c .atoms);
-  rows = oneMore true (c .rows);
-  skipped = c .skipped;
-  outdone = oneMore (not (isNew (p .atom))) (c .outdone);
-  assumed = oneMore assumed (c .assumed);
-}
+-- the counts with the site, and behind the gaps what is greater
+abbrev pub heldWith : Held → Places → Bool → Held
+heldWith h p assumed =
+    let c = h .counts in
+    record {
+      counts = record {
+        chains = oneMore (isNewChain c p) (c .chains);
+        residues = oneMore (p .residue .new) (c .residues);
+        atoms = oneMore (p .atom .new) (c .atoms);
+        rows = oneMore true (c .rows);
+        skipped = c .skipped;
+        outdone = oneMore (not (p .atom .new)) (c .outdone);
+        assumed = oneMore assumed (c .assumed);
+      };
+      behind = record { residues = c .residues - p .residue .front; atoms = c .atoms - p .atom .front };
+    }
 
 -- a skipped row
-abbrev pub withSkipped : Counts → Counts
-withSkipped c = record {
-  chains = c .chains;
-  residues = c .residues;
-  atoms = c .atoms;
-  rows = oneMore true (c .rows);
-  skipped = oneMore true (c .skipped);
-  outdone = c .outdone;
-  assumed = c .assumed;
-}
+abbrev pub withSkipped : Held → Held
+withSkipped h =
+    let c = h .counts in
+    record {
+      counts = record {
+        chains = c .chains;
+        residues = c .residues;
+        atoms = c .atoms;
+        rows = oneMore true (c .rows);
+        skipped = oneMore true (c .skipped);
+        outdone = c .outdone;
+        assumed = c .assumed;
+      };
+      behind = h .behind;
+    }
 
 -- ---- the whole
 
 -- Where the site had no room nothing has changed, and of any model that the slices and counts held that is what it lacked; else no slice is longer or
 -- shorter, and it lacked none, and they hold the model with the site, if the greatest number is above its count of rows.
-abbrev pub Did : Records → Room → Counts → Site → Put → Records → Type 0
-Did r room c s (NoRoom d) after = (after ≡ r) × (0 < d) × ((st : State) → Holds r room c st → Proper s → lacking room st (site s) ≡ d)
-Did r room c s (Done d) after =
+abbrev pub Did : Records → Room → Held → Site → Put → Records → Type 0
+Did r room h s (NoRoom d) after = (after ≡ r) × (0 < d) × ((st : State) → HoldsApart r room h st → Proper s → lacking room st (site s) ≡ d)
+Did r room h s (Done d) after =
     SameLengths r after
-    × ((st : State) → Holds r room c st → Proper s
-    → (lacking room st (site s) ≡ 0) × (suc (st .rows) < 2 ^ 64 → Holds after room d (step st (site s))))
+    × ((st : State) → HoldsApart r room h st → Proper s
+    → (lacking room st (site s) ≡ 0) × (suc (st .rows) < 2 ^ 64 → HoldsApart after room d (step st (site s))))

@@ -1,15 +1,14 @@
--- What a look for a chain says, and what a slice holds after something is put at its place among the first n entries.
+-- What a look for a chain says, and what a slice of the atoms shows after one is put in.
 use Prim.{Unit}
 use mathlib.Core.Path.{_≡_}
-use mathlib.Core.Bool.{Bool, true, false, cond}
+use mathlib.Core.Bool.{Bool, false, not, _&&_, cond}
 use mathlib.Core.List.{List, [], _∷_}
-use Prim.Native.Nat.{ℕ, _≤_, _<_}
+use Prim.Native.Nat.{ℕ, suc, _+_, _-_, _≤_, _<_}
 use lib.Dec.{eqb}
 use lib.Ieee.{Float, lt, nan}
 use lib.ListN.{length, getD, set}
-use Rattle.records.specs.declared.places.Place.{Place}
-use Rattle.records.specs.declared.places.Place.the-variants.{At, Before}
-use Rattle.records.specs.Insertion.{inserted}
+use Rattle.gaps.specs.declared.spots.Spot.{Spot}
+use Rattle.gaps.specs.Gaps.{closed, withNew, CanTake}
 use Rattle.model.specs.Chains.{chainPlace}
 use Rattle.model.specs.Lists.{any}
 
@@ -26,19 +25,20 @@ pub record ChainFound (l : List ℕ) (c r : ℕ) : Type 0 where
   pub there : r < length l → getD l r 0 ≡ c
   pub place : Distinct l → r ≡ chainPlace c l
 
--- ---- residues and atoms
+-- ---- atoms
+
+-- the atom is there, and the occupancy is strictly greater than its
+abbrev pub outdoes : Spot → List Float → Float → Bool
+outdoes s occupancies v = not (s .new) && lt (getD occupancies (s .front - 1) nan) v
+
 module _ {A : Type 0} where
-  -- what is there stays
-  abbrev pub newAt : Place → ℕ → A → List A → List A
-  newAt (At i) n v l = l
-  newAt (Before i) n v l = inserted l n i v
+  -- what is there is replaced by something better, and what is new goes to its spot
+  abbrev pub betterIn : Bool → Spot → A → List A → List A
+  betterIn better s v l = cond better (set l (s .front - 1) v) (withNew s v l)
 
-  -- what is there is replaced by something better
-  abbrev pub betterAt : Place → Bool → ℕ → A → List A → List A
-  betterAt (At i) better n v l = cond better (set l i v) l
-  betterAt (Before i) better n v l = inserted l n i v
-
--- the occupancy is strictly greater than the one that is there
-abbrev pub outdoes : Place → List Float → Float → Bool
-outdoes (At i) occupancies v = lt (getD occupancies i nan) v
-outdoes (Before i) occupancies v = true
+  -- the slice shows that, by the occupancies
+  pub record Betters (front behind : ℕ) (s : Spot) (occupancy : Float) (occupancies : List Float) (v : A) (l after : List A) : Type 0 where
+    pub long : length after ≡ length l
+    pub entries : CanTake front behind s occupancies → CanTake front behind s l
+        → closed (cond (s .new) (suc (s .front)) (s .front)) (front + behind - s .front) after
+        ≡ betterIn (outdoes s (closed front behind occupancies) occupancy) s v (closed front behind l)

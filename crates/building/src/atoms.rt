@@ -1,11 +1,13 @@
-// An atom put into the records, one slice to a field, at its place among the first n of them.
-use records::Place;
+// The atoms in their slices, one to a field, with a gap where the next one goes.
+use crate::held::rest;
+use gaps::Spot;
 ghost use mathlib.Core.Path.{_≡_};
 ghost use mathlib.Core.Bool.{cond};
+ghost use Prim.Native.Nat.{_-_};
 ghost use lib.Ieee.{lt, nan};
 ghost use lib.ListN.{getD, set};
-ghost use Rattle.records.specs.Insertion.{inserted};
-ghost use Rattle.building.specs.Slices.{newAt, betterAt, outdoes};
+ghost use Rattle.gaps.specs.Gaps.{GapMoved, PutIn};
+ghost use Rattle.building.specs.Slices.{outdoes, Betters};
 
 // Whether the entry at index i is less than v; false where there is none.
 fn is_less_at(floats: &[f64], i: usize, v: f64) -> bool
@@ -18,54 +20,37 @@ fn is_less_at(floats: &[f64], i: usize, v: f64) -> bool
     false
 }
 
-// A new atom goes in before the one at index i.
-fn insert_atom(
-    keys: &mut [u64],
-    names: &mut [u64],
-    elements: &mut [u8],
-    positions: &mut [[f64; 3]],
-    occupancies: &mut [f64],
-    n: usize,
-    i: usize,
-    key: u64,
-    name: u64,
-    element: u8,
-    position: [f64; 3],
-    occupancy: f64,
-)
-    ensures { λ _. ⌜ now (keys .exit) ≡ inserted (now (keys .entry)) n i key ⌝ }
-    ensures { λ _. ⌜ now (names .exit) ≡ inserted (now (names .entry)) n i name ⌝ }
-    ensures { λ _. ⌜ now (elements .exit) ≡ inserted (now (elements .entry)) n i element ⌝ }
-    ensures { λ _. ⌜ now (positions .exit) ≡ inserted (now (positions .entry)) n i position ⌝ }
-    ensures { λ _. ⌜ now (occupancies .exit) ≡ inserted (now (occupancies .entry)) n i occupancy ⌝ }
+// Whether the last atom before the gap was there before, and has a lesser occupancy.
+fn is_outdone(occupancies: &[f64], spot: Spot, occupancy: f64) -> bool
+    ensures { λ r. ⌜ r ≡ outdoes spot (now (occupancies .entry)) occupancy ⌝ }
 {
-    records::insert_u64(keys, n, i, key);
-    records::insert_u64(names, n, i, name);
-    records::insert_u8(elements, n, i, element);
-    records::insert_point(positions, n, i, position);
-    records::insert_f64(occupancies, n, i, occupancy);
+    if spot.new {
+        return false;
+    }
+    is_less_at(occupancies, rest(spot.front, 1), occupancy)
 }
 
-// The atom at index i is replaced where its occupancy is less.
+// Such an atom is replaced.
 fn replace_atom(
     elements: &mut [u8],
     positions: &mut [[f64; 3]],
     occupancies: &mut [f64],
-    i: usize,
+    spot: Spot,
     element: u8,
     position: [f64; 3],
     occupancy: f64,
 )
-    ensures { λ _. ⌜ now (elements .exit) ≡ cond (lt (getD (now (occupancies .entry)) i nan) occupancy) (set (now (elements .entry)) i element) (now (elements .entry)) ⌝ }
-    ensures { λ _. ⌜ now (positions .exit) ≡ cond (lt (getD (now (occupancies .entry)) i nan) occupancy) (set (now (positions .entry)) i position) (now (positions .entry)) ⌝ }
-    ensures { λ _. ⌜ now (occupancies .exit) ≡ cond (lt (getD (now (occupancies .entry)) i nan) occupancy) (set (now (occupancies .entry)) i occupancy) (now (occupancies .entry)) ⌝ }
+    ensures { λ _. ⌜ now (elements .exit) ≡ cond (outdoes spot (now (occupancies .entry)) occupancy) (set (now (elements .entry)) (spot .front - 1) element) (now (elements .entry)) ⌝ }
+    ensures { λ _. ⌜ now (positions .exit) ≡ cond (outdoes spot (now (occupancies .entry)) occupancy) (set (now (positions .entry)) (spot .front - 1) position) (now (positions .entry)) ⌝ }
+    ensures { λ _. ⌜ now (occupancies .exit) ≡ cond (outdoes spot (now (occupancies .entry)) occupancy) (set (now (occupancies .entry)) (spot .front - 1) occupancy) (now (occupancies .entry)) ⌝ }
 {
-    if !is_less_at(occupancies, i, occupancy) {
+    if !is_outdone(occupancies, spot, occupancy) {
         return;
     }
-    records::store_u8(elements, i, element);
-    records::store_point(positions, i, position);
-    records::store_f64(occupancies, i, occupancy);
+    let last = rest(spot.front, 1);
+    records::store_u8(elements, last, element);
+    records::store_point(positions, last, position);
+    records::store_f64(occupancies, last, occupancy);
 }
 
 // An atom that is there is replaced only by one with a strictly greater occupancy.
@@ -75,43 +60,57 @@ pub(crate) fn put_atom(
     elements: &mut [u8],
     positions: &mut [[f64; 3]],
     occupancies: &mut [f64],
-    n: usize,
-    place: Place,
+    front: usize,
+    behind: usize,
+    spot: Spot,
     key: u64,
     name: u64,
     element: u8,
     position: [f64; 3],
     occupancy: f64,
 )
-    ensures { λ _. ⌜ now (keys .exit) ≡ newAt place n key (now (keys .entry)) ⌝ }
-    ensures { λ _. ⌜ now (names .exit) ≡ newAt place n name (now (names .entry)) ⌝ }
-    ensures { λ _. ⌜ now (elements .exit) ≡ betterAt place (outdoes place (now (occupancies .entry)) occupancy) n element (now (elements .entry)) ⌝ }
-    ensures { λ _. ⌜ now (positions .exit) ≡ betterAt place (outdoes place (now (occupancies .entry)) occupancy) n position (now (positions .entry)) ⌝ }
-    ensures { λ _. ⌜ now (occupancies .exit) ≡ betterAt place (outdoes place (now (occupancies .entry)) occupancy) n occupancy (now (occupancies .entry)) ⌝ }
+    ensures { λ _. ⌜ PutIn front behind spot key (now (keys .entry)) (now (keys .exit)) ⌝ }
+    ensures { λ _. ⌜ PutIn front behind spot name (now (names .entry)) (now (names .exit)) ⌝ }
+    ensures { λ _. ⌜ Betters front behind spot occupancy (now (occupancies .entry)) element (now (elements .entry)) (now (elements .exit)) ⌝ }
+    ensures { λ _. ⌜ Betters front behind spot occupancy (now (occupancies .entry)) position (now (positions .entry)) (now (positions .exit)) ⌝ }
+    ensures { λ _. ⌜ Betters front behind spot occupancy (now (occupancies .entry)) occupancy (now (occupancies .entry)) (now (occupancies .exit)) ⌝ }
 {
-    match place {
-        Place::At(i) => replace_atom(
-            elements,
-            positions,
-            occupancies,
-            i,
-            element,
-            position,
-            occupancy,
-        ),
-        Place::Before(i) => insert_atom(
-            keys,
-            names,
-            elements,
-            positions,
-            occupancies,
-            n,
-            i,
-            key,
-            name,
-            element,
-            position,
-            occupancy,
-        ),
-    }
+    gaps::put_u64(keys, front, behind, spot, key);
+    gaps::put_u64(names, front, behind, spot, name);
+    gaps::put_u8(elements, front, behind, spot, element);
+    gaps::put_point(positions, front, behind, spot, position);
+    gaps::put_f64(occupancies, front, behind, spot, occupancy);
+    replace_atom(
+        elements,
+        positions,
+        occupancies,
+        spot,
+        element,
+        position,
+        occupancy,
+    );
+}
+
+// All of them to the front.
+pub(crate) fn gather_atoms(
+    keys: &mut [u64],
+    names: &mut [u64],
+    elements: &mut [u8],
+    positions: &mut [[f64; 3]],
+    occupancies: &mut [f64],
+    front: usize,
+    behind: usize,
+    many: usize,
+)
+    ensures { λ _. ⌜ GapMoved front behind many (now (keys .entry)) (now (keys .exit)) ⌝ }
+    ensures { λ _. ⌜ GapMoved front behind many (now (names .entry)) (now (names .exit)) ⌝ }
+    ensures { λ _. ⌜ GapMoved front behind many (now (elements .entry)) (now (elements .exit)) ⌝ }
+    ensures { λ _. ⌜ GapMoved front behind many (now (positions .entry)) (now (positions .exit)) ⌝ }
+    ensures { λ _. ⌜ GapMoved front behind many (now (occupancies .entry)) (now (occupancies .exit)) ⌝ }
+{
+    gaps::move_gap_u64(keys, front, behind, many);
+    gaps::move_gap_u64(names, front, behind, many);
+    gaps::move_gap_u8(elements, front, behind, many);
+    gaps::move_gap_point(positions, front, behind, many);
+    gaps::move_gap_f64(occupancies, front, behind, many);
 }

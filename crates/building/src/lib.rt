@@ -1,10 +1,15 @@
 // The model built in lent records, one slice to a field: step 8 of a row.
 mod atoms;
 mod chains;
+mod gathering;
+mod held;
 mod residues;
 mod room;
 mod sites;
 
+pub use gathering::gather;
+pub use held::Behind;
+pub use held::Held;
 pub use sites::Counts;
 pub use sites::Put;
 pub use sites::put_site;

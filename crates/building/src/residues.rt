@@ -1,46 +1,42 @@
-// A residue put into the records, one slice to a field, at its place among the first n of them.
-use records::Place;
-ghost use mathlib.Core.Path.{_≡_};
-ghost use Rattle.records.specs.Insertion.{inserted};
-ghost use Rattle.building.specs.Slices.{newAt};
-
-// A new residue goes in before the one at index i.
-fn insert_residue(
-    keys: &mut [u64],
-    names: &mut [u64],
-    marks: &mut [u8],
-    n: usize,
-    i: usize,
-    key: u64,
-    name: u64,
-    mark: u8,
-)
-    ensures { λ _. ⌜ now (keys .exit) ≡ inserted (now (keys .entry)) n i key ⌝ }
-    ensures { λ _. ⌜ now (names .exit) ≡ inserted (now (names .entry)) n i name ⌝ }
-    ensures { λ _. ⌜ now (marks .exit) ≡ inserted (now (marks .entry)) n i mark ⌝ }
-{
-    records::insert_u64(keys, n, i, key);
-    records::insert_u64(names, n, i, name);
-    records::insert_u8(marks, n, i, mark);
-}
+// The residues in their slices, one to a field, with a gap where the next one goes.
+use gaps::Spot;
+ghost use Rattle.gaps.specs.Gaps.{GapMoved, PutIn};
 
 // A residue that is there keeps what its first row said.
 pub(crate) fn put_residue(
     keys: &mut [u64],
     names: &mut [u64],
     marks: &mut [u8],
-    n: usize,
-    place: Place,
+    front: usize,
+    behind: usize,
+    spot: Spot,
     key: u64,
     name: u64,
     mark: u8,
 )
-    ensures { λ _. ⌜ now (keys .exit) ≡ newAt place n key (now (keys .entry)) ⌝ }
-    ensures { λ _. ⌜ now (names .exit) ≡ newAt place n name (now (names .entry)) ⌝ }
-    ensures { λ _. ⌜ now (marks .exit) ≡ newAt place n mark (now (marks .entry)) ⌝ }
+    ensures { λ _. ⌜ PutIn front behind spot key (now (keys .entry)) (now (keys .exit)) ⌝ }
+    ensures { λ _. ⌜ PutIn front behind spot name (now (names .entry)) (now (names .exit)) ⌝ }
+    ensures { λ _. ⌜ PutIn front behind spot mark (now (marks .entry)) (now (marks .exit)) ⌝ }
 {
-    match place {
-        Place::At(i) => {}
-        Place::Before(i) => insert_residue(keys, names, marks, n, i, key, name, mark),
-    }
+    gaps::put_u64(keys, front, behind, spot, key);
+    gaps::put_u64(names, front, behind, spot, name);
+    gaps::put_u8(marks, front, behind, spot, mark);
+}
+
+// All of them to the front.
+pub(crate) fn gather_residues(
+    keys: &mut [u64],
+    names: &mut [u64],
+    marks: &mut [u8],
+    front: usize,
+    behind: usize,
+    many: usize,
+)
+    ensures { λ _. ⌜ GapMoved front behind many (now (keys .entry)) (now (keys .exit)) ⌝ }
+    ensures { λ _. ⌜ GapMoved front behind many (now (names .entry)) (now (names .exit)) ⌝ }
+    ensures { λ _. ⌜ GapMoved front behind many (now (marks .entry)) (now (marks .exit)) ⌝ }
+{
+    gaps::move_gap_u64(keys, front, behind, many);
+    gaps::move_gap_u64(names, front, behind, many);
+    gaps::move_gap_u8(marks, front, behind, many);
 }

@@ -1,10 +1,13 @@
 // A site put into the records: its chain, its residue and its atom, where there is room for what is new of them.
 use crate::atoms::put_atom;
 use crate::chains::chain_place;
+use crate::held::Behind;
+use crate::held::Held;
+use crate::held::rest;
 use crate::residues::put_residue;
 use crate::room::has_no_room;
+use gaps::Spot;
 use model::Room;
-use records::Place;
 use rows::Point3;
 use rows::Site;
 ghost use mathlib.Core.Path.{_≡_};
@@ -13,7 +16,7 @@ ghost use Rattle.model.specs.Keys.{residueKey};
 ghost use Rattle.model.specs.Lists.{count};
 ghost use Rattle.model.specs.Lent.{coordinates};
 ghost use Rattle.building.specs.Holds.{recordsOf};
-ghost use Rattle.building.specs.Sites.{isNew, PlacesFound, lackOf, placed, oneMore, counted, withSkipped, Did};
+ghost use Rattle.building.specs.Sites.{PlacesFound, lackOf, Placed, oneMore, heldWith, withSkipped, Did};
 
 pub struct Counts {
     pub chains: usize,
@@ -28,15 +31,15 @@ pub struct Counts {
 pub enum Put {
     // What the site has no room for: 1 its chain, 2 its residue, 3 its atom. Nothing has changed.
     NoRoom(u8),
-    Done(Counts),
+    Done(Held),
 }
 
 // Where a site goes.
 pub struct Places {
     pub chain: usize,
     pub key: u64,
-    pub residue: Place,
-    pub atom: Place,
+    pub residue: Spot,
+    pub atom: Spot,
 }
 
 // ---- where it goes
@@ -56,15 +59,19 @@ fn places_of(
     residue_keys: &[u64],
     atom_keys: &[u64],
     atom_names: &[u64],
-    counts: Counts,
+    held: Held,
     site: Site,
 ) -> Places
-    ensures { λ r. ⌜ PlacesFound (now (chains .entry)) (now («residue_keys» .entry)) (now («atom_keys» .entry)) (now («atom_names» .entry)) counts site r ⌝ }
+    ensures { λ r. ⌜ PlacesFound (now (chains .entry)) (now («residue_keys» .entry)) (now («atom_keys» .entry)) (now («atom_names» .entry)) held site r ⌝ }
 {
+    let counts = held.counts;
+    let behind = held.behind;
     let chain = chain_place(chains, counts.chains, site.chain);
     let key = residue_key(chain, site.sequence, site.insertion_code);
-    let residue = records::place_of_key(residue_keys, counts.residues, key);
-    let atom = records::place_of(atom_keys, atom_names, counts.atoms, key, site.atom);
+    let residues = rest(counts.residues, behind.residues);
+    let residue = gaps::spot_of_key(residue_keys, residues, behind.residues, key);
+    let atoms = rest(counts.atoms, behind.atoms);
+    let atom = gaps::spot_of(atom_keys, atom_names, atoms, behind.atoms, key, site.atom);
     Places {
         chain: chain,
         key: key,
@@ -75,15 +82,6 @@ fn places_of(
 
 // ---- whether there is room
 
-fn is_new(place: Place) -> bool
-    ensures { λ r. ⌜ r ≡ isNew place ⌝ }
-{
-    match place {
-        Place::At(i) => false,
-        Place::Before(i) => true,
-    }
-}
-
 fn lack_of(room: Room, counts: Counts, places: Places) -> u8
     ensures { λ r. ⌜ r ≡ lackOf room counts places ⌝ }
 {
@@ -91,11 +89,11 @@ fn lack_of(room: Room, counts: Counts, places: Places) -> u8
         return 1;
     }
     let residue = places.residue;
-    if has_no_room(is_new(residue), room.residues, counts.residues) {
+    if has_no_room(residue.new, room.residues, counts.residues) {
         return 2;
     }
     let atom = places.atom;
-    if has_no_room(is_new(atom), room.atoms, counts.atoms) {
+    if has_no_room(atom.new, room.atoms, counts.atoms) {
         return 3;
     }
     0
@@ -128,35 +126,47 @@ fn one_more(more: bool, n: usize) -> usize
     n + 1
 }
 
-fn counted_with(counts: Counts, places: Places, assumed: bool) -> Counts
-    ensures { λ r. ⌜ r ≡ counted counts places assumed ⌝ }
+// The records behind the gaps are then those that are greater.
+fn held_with(held: Held, places: Places, assumed: bool) -> Held
+    ensures { λ r. ⌜ r ≡ heldWith held places assumed ⌝ }
 {
+    let counts = held.counts;
     let residue = places.residue;
     let atom = places.atom;
-    let new_atom = is_new(atom);
-    Counts {
-        chains: one_more(counts.chains <= places.chain, counts.chains),
-        residues: one_more(is_new(residue), counts.residues),
-        atoms: one_more(new_atom, counts.atoms),
-        rows: one_more(true, counts.rows),
-        skipped: counts.skipped,
-        outdone: one_more(!new_atom, counts.outdone),
-        assumed: one_more(assumed, counts.assumed),
+    Held {
+        counts: Counts {
+            chains: one_more(counts.chains <= places.chain, counts.chains),
+            residues: one_more(residue.new, counts.residues),
+            atoms: one_more(atom.new, counts.atoms),
+            rows: one_more(true, counts.rows),
+            skipped: counts.skipped,
+            outdone: one_more(!atom.new, counts.outdone),
+            assumed: one_more(assumed, counts.assumed),
+        },
+        behind: Behind {
+            residues: rest(counts.residues, residue.front),
+            atoms: rest(counts.atoms, atom.front),
+        },
     }
 }
 
 // A skipped row makes nothing.
-pub fn skip_row(counts: Counts) -> Counts
-    ensures { λ r. ⌜ r ≡ withSkipped counts ⌝ }
+pub fn skip_row(held: Held) -> Held
+    ensures { λ r. ⌜ r ≡ withSkipped held ⌝ }
 {
-    Counts {
-        chains: counts.chains,
-        residues: counts.residues,
-        atoms: counts.atoms,
-        rows: one_more(true, counts.rows),
-        skipped: one_more(true, counts.skipped),
-        outdone: counts.outdone,
-        assumed: counts.assumed,
+    let counts = held.counts;
+    let behind = held.behind;
+    Held {
+        counts: Counts {
+            chains: counts.chains,
+            residues: counts.residues,
+            atoms: counts.atoms,
+            rows: one_more(true, counts.rows),
+            skipped: one_more(true, counts.skipped),
+            outdone: counts.outdone,
+            assumed: counts.assumed,
+        },
+        behind: behind,
     }
 }
 
@@ -170,35 +180,41 @@ fn store_site(
     elements: &mut [u8],
     positions: &mut [[f64; 3]],
     occupancies: &mut [f64],
-    counts: Counts,
+    held: Held,
     places: Places,
     site: Site,
 )
-    ensures { λ _. ⌜ recordsOf (now (chains .exit)) (now («residue_keys» .exit)) (now («residue_names» .exit)) (now («residue_marks» .exit)) (now («atom_keys» .exit)) (now («atom_names» .exit)) (now (elements .exit)) (now (positions .exit)) (now (occupancies .exit))
-        ≡ placed (recordsOf (now (chains .entry)) (now («residue_keys» .entry)) (now («residue_names» .entry)) (now («residue_marks» .entry)) (now («atom_keys» .entry)) (now («atom_names» .entry)) (now (elements .entry)) (now (positions .entry)) (now (occupancies .entry))) counts places site ⌝ }
+    ensures { λ _. ⌜ Placed (recordsOf (now (chains .entry)) (now («residue_keys» .entry)) (now («residue_names» .entry)) (now («residue_marks» .entry)) (now («atom_keys» .entry)) (now («atom_names» .entry)) (now (elements .entry)) (now (positions .entry)) (now (occupancies .entry))) held places site
+        (recordsOf (now (chains .exit)) (now («residue_keys» .exit)) (now («residue_names» .exit)) (now («residue_marks» .exit)) (now («atom_keys» .exit)) (now («atom_names» .exit)) (now (elements .exit)) (now (positions .exit)) (now (occupancies .exit))) ⌝ }
 {
+    let counts = held.counts;
+    let behind = held.behind;
     let residue = places.residue;
     let atom = places.atom;
     records::store_u64(chains, places.chain, site.chain);
     let mark = mark_of(site.hetatm);
+    let residues = rest(counts.residues, behind.residues);
     put_residue(
         residue_keys,
         residue_names,
         residue_marks,
-        counts.residues,
+        residues,
+        behind.residues,
         residue,
         places.key,
         site.residue,
         mark,
     );
     let point = point_of(site.position);
+    let atoms = rest(counts.atoms, behind.atoms);
     put_atom(
         atom_keys,
         atom_names,
         elements,
         positions,
         occupancies,
-        counts.atoms,
+        atoms,
+        behind.atoms,
         atom,
         places.key,
         site.atom,
@@ -220,13 +236,14 @@ pub fn put_site(
     positions: &mut [[f64; 3]],
     occupancies: &mut [f64],
     room: Room,
-    counts: Counts,
+    held: Held,
     site: Site,
 ) -> Put
-    ensures { λ r. ⌜ Did (recordsOf (now (chains .entry)) (now («residue_keys» .entry)) (now («residue_names» .entry)) (now («residue_marks» .entry)) (now («atom_keys» .entry)) (now («atom_names» .entry)) (now (elements .entry)) (now (positions .entry)) (now (occupancies .entry))) room counts site r
+    ensures { λ r. ⌜ Did (recordsOf (now (chains .entry)) (now («residue_keys» .entry)) (now («residue_names» .entry)) (now («residue_marks» .entry)) (now («atom_keys» .entry)) (now («atom_names» .entry)) (now (elements .entry)) (now (positions .entry)) (now (occupancies .entry))) room held site r
         (recordsOf (now (chains .exit)) (now («residue_keys» .exit)) (now («residue_names» .exit)) (now («residue_marks» .exit)) (now («atom_keys» .exit)) (now («atom_names» .exit)) (now (elements .exit)) (now (positions .exit)) (now (occupancies .exit))) ⌝ }
 {
-    let places = places_of(chains, residue_keys, atom_keys, atom_names, counts, site);
+    let places = places_of(chains, residue_keys, atom_keys, atom_names, held, site);
+    let counts = held.counts;
     let lack = lack_of(room, counts, places);
     if 0 < lack {
         return Put::NoRoom(lack);
@@ -241,9 +258,9 @@ pub fn put_site(
         elements,
         positions,
         occupancies,
-        counts,
+        held,
         places,
         site,
     );
-    Put::Done(counted_with(counts, places, site.assumed))
+    Put::Done(held_with(held, places, site.assumed))
 }

@@ -12,7 +12,7 @@ use Rattle.numbers.specs.Nearest.{NearestTo}
 use Rattle.numbers.specs.Reading.{numberOf}
 use Rattle.numbers.proofs.ValueIsNearest.{value-is-nearest}
 use Rattle.tokens.specs.Tokens.{tokenAt}
-use Rattle.tokens.specs.Words.{isMissing}
+use Rattle.words.specs.Words.{isMissing}
 use Rattle.rows.specs.declared.columns.Columns.{Columns}
 use Rattle.rows.specs.declared.fields.Coordinate.the-variants.{Missing, Given}
 use Rattle.rows.specs.declared.rules.Row.the-variants.{Kept}

@@ -15,8 +15,8 @@ use Rattle.numbers.specs.declared.reading.Number.the-variants.{Value}
 use Rattle.numbers.specs.Rounding.{printable}
 use Rattle.numbers.proofs.ValueIsPrintable.{value-is-printable}
 use Rattle.tokens.specs.Tokens.{tokenAt}
-use Rattle.tokens.specs.Words.{isMissing}
-use Rattle.tokens.proofs.SequenceLaws.{sequence-below}
+use Rattle.words.specs.Words.{isMissing}
+use Rattle.words.proofs.SequenceLaws.{sequence-below}
 use Rattle.tokens.proofs.TokensAreOfTheLine.{tokens-are-of-the-line}
 use Rattle.names.specs.Elements.{elementOf}
 use Rattle.names.specs.Packing.{IsName, packedIn, packed, unpackedIn, unpacked}

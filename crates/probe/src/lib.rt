@@ -1,6 +1,5 @@
-// Each layer through C conventions, for the programs that run it beside the Rust.
+// The lower layers through C conventions, for the programs that run them beside the Rust.
 mod name;
 mod number;
 mod placed;
-mod reading;
 mod token;

@@ -7,7 +7,7 @@ ghost use lib.Seq.{sets};
 ghost use Rattle.ascii.specs.Output.{placedOf, bufferAfter};
 ghost use Rattle.tokens.specs.Items.{itemOf};
 ghost use Rattle.tokens.specs.Quote.{quoteOf};
-ghost use Rattle.tokens.specs.Sequence.{sequenceOf};
+ghost use Rattle.words.specs.Sequence.{sequenceOf};
 ghost use Rattle.tokens.specs.Tokens.{tokenAt};
 ghost use Rattle.probe.specs.Placings.{outcomeOfPlaced, amountOfPlaced};
 
@@ -32,7 +32,7 @@ pub extern "C" fn probe_item(token: &[u8]) -> usize
 pub extern "C" fn probe_sequence(token: &[u8]) -> u32
     ensures { λ r. ⌜ r ≡ sequenceOf (now (token .entry)) ⌝ }
 {
-    tokens::sequence_of(token)
+    words::sequence_of(token)
 }
 
 // 1: no room, and the bytes needed in number; 2: written, and the next place in number.

@@ -1,6 +1,5 @@
 pub mod ClearingLaws
 pub mod InsertionLaws
-pub mod KeptAscending
 pub mod MapLaws
 pub mod OrderLaws
 pub mod PairLaws

@@ -2,12 +2,11 @@
 -- relates several slices, one to a field, to one list of records.
 use mathlib.Core.Path.{_≡_, refl, ap, _∙_}
 use mathlib.Core.List.{List, [], _∷_, _++_, map}
-use mathlib.Core.Bool.{Bool, true, false, _&&_, cond}
+use mathlib.Core.Bool.{Bool, true}
 use Prim.Native.Nat.{ℕ, zero, suc, _-_}
-use lib.Dec.{leb, ltb}
 use lib.ListN.{length, take, drop, set, replicate, length-map}
 use Rattle.records.specs.Clearing.{cleared}
-use Rattle.records.specs.Insertion.{ins, inserted}
+use Rattle.records.specs.Insertion.{ins}
 use Rattle.records.specs.Places.{Ascending, placeIn}
 
 module _ {A B : Type 0} (f : A → B) where
@@ -35,17 +34,6 @@ module _ {A B : Type 0} (f : A → B) where
   map-join : (l m : List A) → map f (l ++ m) ≡ map f l ++ map f m
   map-join [] m = refl
   map-join (x ∷ l) m = ap (λ (r : List B). f x ∷ r) (map-join l m)
-
-  pub map-inserted : (l : List A) (n i : ℕ) (v : A) → map f (inserted l n i v) ≡ inserted (map f l) n i (f v)
-  unfolding inserted
-  map-inserted l n i v = rw length-map (go (leb i n && ltb n (length l)))
-    where
-      parts : map f (ins i v (take n l) ++ drop (suc n) l) ≡ ins i (f v) (take n (map f l)) ++ drop (suc n) (map f l)
-      parts = map-join (ins i v (take n l)) (drop (suc n) l) ∙ rw (map-ins i v (take n l), map-take n l, map-drop (suc n) l)
-
-      go : (t : Bool) → map f (cond t (ins i v (take n l) ++ drop (suc n) l) l) ≡ cond t (ins i (f v) (take n (map f l)) ++ drop (suc n) (map f l)) (map f l)
-      go true = parts
-      go false = refl
 
   map-replicate : (n : ℕ) (z : A) → map f (replicate n z) ≡ replicate n (f z)
   map-replicate zero z = refl

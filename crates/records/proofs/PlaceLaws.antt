@@ -1,6 +1,5 @@
--- What a place says, in any order: every entry before it is below c, and c is the entry there or comes before it. So c put in before that entry
--- leaves a list that ascends.
-use mathlib.Core.Path.{_≡_, refl, sym, subst}
+-- What a place says, in any order: every entry before it is below c, and c is the entry there or comes before it.
+use mathlib.Core.Path.{_≡_, refl}
 use mathlib.Core.List.{List, [], _∷_}
 use mathlib.Core.Bool.{Bool, true, false, cond}
 use Prim.Native.Nat.{ℕ, zero, suc, _≤_, _<_}
@@ -9,8 +8,7 @@ use native.Mathlib.Omega.{arith}
 use lib.ListN.{length, getD}
 use Rattle.records.specs.declared.places.Place.{Place}
 use Rattle.records.specs.declared.places.Place.the-variants.{At, Before}
-use Rattle.records.specs.Insertion.{ins}
-use Rattle.records.specs.Places.{Leads, Ascending, further, placeIn, Found}
+use Rattle.records.specs.Places.{Ascending, further, placeIn}
 use Rattle.records.proofs.OrderLaws.{Order, asymmetric}
 
 -- an entry that is there is the same whatever stands for one that is not
@@ -76,23 +74,3 @@ module _ {A : Type 0} {less : A → A → Bool} (o : Order less) (d : A) where
       go true u e f (Before i) s = (omega arith, (next e (s .1 .0), λ h. s .1 .1 (omega arith)))
       go false true e f r s = (omega arith, ((λ j h. absurd (not-suc-le-zero h)), λ h. f))
       go false false e f r s = (omega arith, ((λ j h. absurd (not-suc-le-zero h)), o .same x c e f))
-
-  -- ---- an insertion before the place
-  leads-ins : (c x : A) (l : List A) (i : ℕ) → Leads less x l → less x c ≡ true → Leads less x (ins i c l)
-  unfolding ins
-  leads-ins c x l zero a e = e
-  leads-ins c x [] (suc i) a e = tt
-  leads-ins c x (y ∷ l) (suc i) a e = a
-
-  ascending-put : (c : A) (l : List A) (i : ℕ) → Ascending less l → Says c l (Before i) → Ascending less (ins i c l)
-  unfolding ins Ascending
-  ascending-put c [] zero s w = (tt, tt)
-  ascending-put c [] (suc i) s w = tt
-  ascending-put c (x ∷ l) zero s w = (w .1 .1 (omega arith), s)
-  ascending-put c (x ∷ l) (suc i) s w = (
-    leads-ins c x l i (s .0) (w .1 .0 0 (omega arith)),
-    ascending-put c l i (s .1) (omega arith, (tail-below c x l i (w .1 .0), λ h. w .1 .1 (omega arith))),
-  )
-
-  pub ascending-ins : (c : A) (l : List A) (i : ℕ) → Found less l c (Before i) → Ascending less l → Ascending less (ins i c l)
-  ascending-ins c l i f s = ascending-put c l i s (subst (Says c l) (sym (f .place s)) (place-says c l))

@@ -1,7 +1,6 @@
-// Lent slices kept in order, one slice to a field: an entry put in, stored or looked for, and what is past the entries cleared.
+// Lent slices, one to a field: an entry looked for among those that ascend, stored, taken out, and what is past the entries cleared.
 mod clearing;
 mod entries;
-mod insertion;
 mod places;
 mod storing;
 
@@ -12,12 +11,7 @@ pub use clearing::clear_u64_from;
 pub use entries::f64_at;
 pub use entries::point_at;
 pub use entries::u64_at;
-pub use insertion::insert_f64;
-pub use insertion::insert_point;
-pub use insertion::insert_u8;
-pub use insertion::insert_u64;
 pub use places::Place;
-pub use places::place_of;
 pub use places::place_of_key;
 pub use places::smaller;
 pub use storing::store_f64;

@@ -3,7 +3,7 @@ ghost use mathlib.Core.Path.{_≡_};
 ghost use Prim.Native.Nat.{_≤_, min};
 ghost use lib.Dec.{ltb};
 ghost use lib.ListN.{length, take};
-ghost use Rattle.records.specs.Places.{Found, pairs, below};
+ghost use Rattle.records.specs.Places.{Found};
 
 pub enum Place {
     // It is there, at this index.
@@ -16,19 +16,6 @@ pub fn smaller(m: usize, n: usize) -> usize
     ensures { λ r. ⌜ r ≡ min m n ⌝ }
 {
     if m < n { m } else { n }
-}
-
-// Whether (k, m) comes before (key, name): by the keys, and where they are the same by the names.
-fn is_below(k: u64, m: u64, key: u64, name: u64) -> bool
-    ensures { λ r. ⌜ r ≡ below (k, m) (key, name) ⌝ }
-{
-    if k < key {
-        return true;
-    }
-    if key < k {
-        return false;
-    }
-    m < name
 }
 
 // The binary search among the first n entries.
@@ -45,30 +32,6 @@ fn search_key(keys: &[u64], n: usize, key: u64) -> Place
             lo = mid + 1;
         } else {
             if key < halfway {
-                hi = mid;
-            } else {
-                return Place::At(mid);
-            }
-        }
-    }
-    Place::Before(lo)
-}
-
-// The same by key and name.
-fn search(keys: &[u64], names: &[u64], n: usize, key: u64, name: u64) -> Place
-    requires { ⌜ (n ≤ length (now keys)) × (n ≤ length (now names)) ⌝ }
-    ensures { λ r. ⌜ Found below (take n (pairs (now (keys .entry)) (now (names .entry)))) (key, name) r ⌝ }
-{
-    let mut lo = 0;
-    let mut hi = n;
-    while lo < hi {
-        let mid = lo + (hi - lo) / 2;
-        let k = keys[mid];
-        let m = names[mid];
-        if is_below(k, m, key, name) {
-            lo = mid + 1;
-        } else {
-            if is_below(key, name, k, m) {
                 hi = mid;
             } else {
                 return Place::At(mid);
@@ -95,23 +58,4 @@ pub fn place_of_key(keys: &[u64], n: usize, key: u64) -> Place
         return Place::At(count - 1);
     }
     search_key(keys, count, key)
-}
-
-// Where (key, name) stands among the first n entries of the two slices, in the order by key and then by name.
-pub fn place_of(keys: &[u64], names: &[u64], n: usize, key: u64, name: u64) -> Place
-    ensures { λ r. ⌜ Found below (take n (pairs (now (keys .entry)) (now (names .entry)))) (key, name) r ⌝ }
-{
-    let count = smaller(n, smaller(keys.len(), names.len()));
-    if count == 0 {
-        return Place::Before(0);
-    }
-    let last_key = keys[count - 1];
-    let last_name = names[count - 1];
-    if is_below(last_key, last_name, key, name) {
-        return Place::Before(count);
-    }
-    if !is_below(key, name, last_key, last_name) {
-        return Place::At(count - 1);
-    }
-    search(keys, names, count, key, name)
 }

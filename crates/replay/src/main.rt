@@ -3,10 +3,13 @@
 use libc::STDIN_FILENO;
 
 mod doubles;
+mod escapes;
 mod names_answered;
 mod numbers_answered;
 mod parts;
+mod records_said;
 mod say;
+mod texts_answered;
 mod tokens_answered;
 
 fn answer_numbers(question: &[u8], text: &[u8]) -> bool {
@@ -49,10 +52,19 @@ fn answer_names(question: &[u8], text: &[u8]) -> bool {
     false
 }
 
+fn answer_texts(question: &[u8], text: &[u8]) -> bool {
+    if check::same(question, b"structure") {
+        texts_answered::structure(text);
+        return true;
+    }
+    false
+}
+
 fn answer(question: &[u8], text: &[u8]) {
     let answered = answer_numbers(question, text)
         || answer_tokens(question, text)
-        || answer_names(question, text);
+        || answer_names(question, text)
+        || answer_texts(question, text);
     if !answered {
         say::say(b"not a question");
     }
@@ -77,7 +89,7 @@ fn answer_all(text: &[u8]) {
 }
 
 fn main() {
-    let mut text = io::large_buffer();
+    let mut text = [0u8; 262144];
     let n = io::read_full(STDIN_FILENO, &mut text);
     answer_all(&text[..n]);
 }

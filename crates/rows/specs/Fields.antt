@@ -8,8 +8,8 @@ use Rattle.ascii.specs.Bytes.{bytes, first}
 use Rattle.numbers.specs.Reading.{numberOf}
 use Rattle.tokens.specs.Split.{tokenIn}
 use Rattle.tokens.specs.Tokens.{tokensOf, tokenAt}
-use Rattle.tokens.specs.Words.{isMissing, isHetatm}
-use Rattle.tokens.specs.Sequence.{sequenceOf}
+use Rattle.words.specs.Words.{isMissing, isHetatm}
+use Rattle.words.specs.Sequence.{sequenceOf}
 use Rattle.names.specs.Packing.{packed}
 use Rattle.names.specs.Elements.{elementOf}
 use Rattle.rows.specs.declared.columns.Columns.{Columns}

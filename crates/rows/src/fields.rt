@@ -10,7 +10,7 @@ ghost use Prim.Native.Nat.{ℕ, _≤_, _<_};
 ghost use lib.ListN.{length, take};
 ghost use Rattle.tokens.specs.Split.{tokenIn, IsPart};
 ghost use Rattle.tokens.specs.Tokens.{tokenAt};
-ghost use Rattle.tokens.specs.Sequence.{sequenceOf};
+ghost use Rattle.words.specs.Sequence.{sequenceOf};
 ghost use Rattle.rows.specs.Fields.{nameOf, chainOf, insertionCodeOf, coordinateOf, InCell, hetatmAt, insertionCodeAt, occupancyAt, elementAt, labelsOf, numbersOf, joinedOf, fieldsOf};
 
 // Whether the row has all the columns that it must have, and reaches them.
@@ -60,7 +60,7 @@ fn name_of(token: &[u8]) -> Name
 fn chain_of(token: &[u8]) -> Name
     ensures { λ r. ⌜ r ≡ chainOf (now (token .entry)) ⌝ }
 {
-    if tokens::is_missing(token) {
+    if words::is_missing(token) {
         return name_of(b"?");
     }
     name_of(token)
@@ -69,7 +69,7 @@ fn chain_of(token: &[u8]) -> Name
 fn insertion_code_of(token: &[u8]) -> u8
     ensures { λ r. ⌜ r ≡ insertionCodeOf (now (token .entry)) ⌝ }
 {
-    if tokens::is_missing(token) {
+    if words::is_missing(token) {
         return 0;
     }
     ascii::byte_at(token, 0)
@@ -78,7 +78,7 @@ fn insertion_code_of(token: &[u8]) -> u8
 fn coordinate_of(token: &[u8]) -> Coordinate
     ensures { λ r. ⌜ r ≡ coordinateOf (now (token .entry)) ⌝ }
 {
-    if tokens::is_missing(token) {
+    if words::is_missing(token) {
         return Coordinate::Missing;
     }
     Coordinate::Given(numbers::read_number(token))
@@ -116,7 +116,7 @@ fn sequence_at(cell: &[u8], places: &[usize], n: usize, column: u8) -> u32
     let part = part_at(cell, places, n, column);
     let start = part.start;
     let end = part.end;
-    tokens::sequence_of(&cell[start..end])
+    words::sequence_of(&cell[start..end])
 }
 
 fn coordinate_at(cell: &[u8], places: &[usize], n: usize, column: u8) -> Coordinate
@@ -137,7 +137,7 @@ fn hetatm_at(cell: &[u8], places: &[usize], n: usize, column: u8) -> bool
     let part = part_at(cell, places, n, column);
     let start = part.start;
     let end = part.end;
-    tokens::is_hetatm(&cell[start..end])
+    words::is_hetatm(&cell[start..end])
 }
 
 fn insertion_code_at(cell: &[u8], places: &[usize], n: usize, column: u8) -> u8

@@ -1,22 +1,7 @@
 // Numbers: the two limits of reach and the forms of the grammar, each read and printed with three places.
 use crate::say::say;
-use ascii::Placed;
+use crate::say::say_value;
 use numbers::Number;
-use numbers::Printed;
-
-fn show_value(x: f64) {
-    let mut text = [0u8; 16];
-    let printed = numbers::write_thousandths(&mut text, 0, x);
-    let Printed::Put(placed) = printed else {
-        return say(b"beyond reach");
-    };
-    let Placed::Next(end) = placed else {
-        return say(b"no room");
-    };
-    if end <= 16 {
-        say(&text[0..end]);
-    }
-}
 
 fn show(text: &[u8]) {
     say(text);
@@ -25,7 +10,7 @@ fn show(text: &[u8]) {
     match n {
         Number::OutsideGrammar => say(b"outside the grammar"),
         Number::BeyondReach => say(b"beyond reach"),
-        Number::Value(x) => show_value(x),
+        Number::Value(x) => say_value(x),
     }
     say(b"\n");
 }

@@ -7,7 +7,7 @@ use native.Mathlib.Omega.{arith}
 use lib.Dec.{ltb}
 use borrow.Author.Tests.{ltb-true}
 use Rattle.tokens.specs.Tokens.{tokensOf}
-use Rattle.tokens.specs.Words.{isLoop, isCellItem, isItem}
+use Rattle.words.specs.Words.{isLoop, isCellItem, isItem}
 use Rattle.states.specs.declared.heads.Heads.{Heads}
 use Rattle.states.specs.declared.heads.State.{State}
 use Rattle.states.specs.declared.heads.State.the-variants.{Base, Header, AtomLoop, OtherLoop}

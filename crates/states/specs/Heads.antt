@@ -3,7 +3,7 @@ use Prim.Native.Nat.{ℕ, _+_}
 use mathlib.Core.Bool.{false, _||_}
 use mathlib.Core.List.{List}
 use Rattle.tokens.specs.Items.{itemOf}
-use Rattle.tokens.specs.Words.{isAtomSiteItem}
+use Rattle.words.specs.Words.{isAtomSiteItem}
 use Rattle.rows.specs.Columns.{noColumns, withColumn}
 use Rattle.states.specs.declared.heads.Heads.{Heads}
 use Rattle.states.specs.declared.heads.State.{State}

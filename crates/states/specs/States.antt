@@ -4,7 +4,7 @@ use mathlib.Core.Bool.{cond}
 use mathlib.Core.List.{List, [], _∷_}
 use lib.Dec.{ltb}
 use Rattle.tokens.specs.Tokens.{tokensOf}
-use Rattle.tokens.specs.Words.{isLoop, isCellItem, isItem}
+use Rattle.words.specs.Words.{isLoop, isCellItem, isItem}
 use Rattle.states.specs.declared.heads.Heads.{Heads}
 use Rattle.states.specs.declared.heads.State.{State}
 use Rattle.states.specs.declared.heads.State.the-variants.{Base, Header, AtomLoop, OtherLoop}

@@ -59,7 +59,7 @@ pub(crate) fn with_header(heads: Heads, token: &[u8]) -> Heads
     let state = heads.state;
     let before = heads.columns;
     let columns = rows::with_column(before, tokens::item_of(token), heads.headers as u8);
-    let atom_site = tokens::is_atom_site_item(token);
+    let atom_site = words::is_atom_site_item(token);
     Heads {
         state,
         columns,

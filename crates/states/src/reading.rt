@@ -76,13 +76,13 @@ fn other_in(heads: Heads) -> Moved
 fn read_token(heads: Heads, token: &[u8]) -> Moved
     ensures { λ r. ⌜ r ≡ movedByToken heads (now (token .entry)) ⌝ }
 {
-    if tokens::is_loop(token) {
+    if words::is_loop(token) {
         return moved_to(no_heads(State::Header), Does::Nothing);
     }
-    if tokens::is_cell_item(token) {
+    if words::is_cell_item(token) {
         return moved_to(heads, Does::Nothing);
     }
-    if tokens::is_item(token) {
+    if words::is_item(token) {
         return item_in(heads, token);
     }
     other_in(heads)

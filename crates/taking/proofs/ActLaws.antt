@@ -9,9 +9,10 @@ use Rattle.model.specs.Proper.{Finite, Proper}
 use Rattle.model.specs.Room.{lacking}
 use Rattle.model.specs.Taken.{skipped, site}
 use Rattle.model.specs.declared.room.Room.{Room}
-use Rattle.building.specs.Holds.{Records, SameLengths, Holds}
+use Rattle.building.specs.Gaps.{HoldsApart}
+use Rattle.building.specs.Holds.{Records, SameLengths}
 use Rattle.building.specs.Sites.{withSkipped, Did}
-use Rattle.building.specs.declared.sites.Counts.{Counts}
+use Rattle.building.specs.declared.held.Held.{Held}
 use Rattle.building.specs.declared.sites.Put.{Put}
 use Rattle.building.specs.declared.sites.Put.the-variants.{NoRoom, Done}
 use Rattle.building.proofs.SiteLaws.{skipped-held}
@@ -21,27 +22,27 @@ use Rattle.taking.specs.declared.plans.Act.the-variants.{Pass, Skip, Kee
 use Rattle.taking.specs.declared.plans.Plan.{Plan}
 use Rattle.taking.specs.declared.taking.Acted.{Acted}
 use Rattle.taking.specs.declared.taking.Halt.the-variants.{Going, Refused}
-use Rattle.taking.specs.declared.taking.Standing.{Standing}
+use Rattle.taking.specs.declared.taking.Stage.{Stage}
 use Rattle.taking.specs.Lines.{Progress, going, halted, within, done, planOf, lineRead}
-use Rattle.taking.specs.Standing.{Stands, actedBy, FiniteIn, Acts, Takes}
+use Rattle.taking.specs.Standing.{StandsApart, actedBy, FiniteIn, Acts, Takes}
 use Rattle.taking.proofs.LengthLaws.{lengths-same}
 use Rattle.taking.proofs.PlanLaws.{plan-finite}
 
-module _ (r : Records) (room : Room) (number : ℕ) (counts : Counts) where
+module _ (r : Records) (room : Room) (number : ℕ) (held : Held) where
   -- ---- what makes nothing, and a skipped row
-  pub acts-as : {act same : Act} {acted : Acted} {after : Records} → act ≡ same → Acts r room number counts same acted after → Acts r room number counts act acted after
-  acts-as {act} {same} {acted} {after} e a = subst (λ (x : Act). Acts r room number counts x acted after) (sym e) a
+  pub acts-as : {act same : Act} {acted : Acted} {after : Records} → act ≡ same → Acts r room number held same acted after → Acts r room number held act acted after
+  acts-as {act} {same} {acted} {after} e a = subst (λ (x : Act). Acts r room number held x acted after) (sym e) a
 
-  pub pass-acts : Acts r room number counts Pass (record { counts = counts; halt = Going }) r
-  pass-acts = record { lengths = lengths-same r; stands = λ heads st held few finite. (refl, refl, held) }
+  pub pass-acts : Acts r room number held Pass (record { held = held; halt = Going }) r
+  pass-acts = record { lengths = lengths-same r; stands = λ heads st holds few finite. (refl, refl, holds) }
 
-  pub refuse-acts : (why : Refusal) → Acts r room number counts (Refuse why) (record { counts = counts; halt = Refused why }) r
-  refuse-acts why = record { lengths = lengths-same r; stands = λ heads st held few finite. refl }
+  pub refuse-acts : (why : Refusal) → Acts r room number held (Refuse why) (record { held = held; halt = Refused why }) r
+  refuse-acts why = record { lengths = lengths-same r; stands = λ heads st holds few finite. refl }
 
-  pub skip-acts : (counted : Counts) → counted ≡ withSkipped counts → Acts r room number counts Skip (record { counts = counted; halt = Going }) r
-  skip-acts counted e = record {
+  pub skip-acts : (more : Held) → more ≡ withSkipped held → Acts r room number held Skip (record { held = more; halt = Going }) r
+  skip-acts more e = record {
     lengths = lengths-same r;
-    stands = λ heads st held few finite. (refl, refl, subst (λ (c : Counts). Holds r room c (step st skipped)) (sym e) (skipped-held r room counts st held few));
+    stands = λ heads st holds few finite. (refl, refl, subst (λ (h : Held). HoldsApart r room h (step st skipped)) (sym e) (skipped-held r room held st holds few));
   }
 
   -- ---- a site
@@ -50,31 +51,31 @@ module _ (r : Records) (room : Room) (number : ℕ) (counts : Counts) where
     lacks zero d others e some = absurd (omega arith)
     lacks (suc lack) d others e some = ap (λ (n : ℕ). halted (Refusal.NoRoom number n)) e
 
-    put-stands : (put : Put) (after : Records) → Did r room counts s put after → Acts r room number counts (Keep s) (actedBy number counts put) after
+    put-stands : (put : Put) (after : Records) → Did r room held s put after → Acts r room number held (Keep s) (actedBy number held put) after
     put-stands (NoRoom d) after did = record {
       lengths = subst (SameLengths r) (sym (did .0)) (lengths-same r);
-      stands = λ heads st held few finite.
-          subst (Stands room after heads counts (Refused (Refusal.NoRoom number d)))
-          (sym (lacks (lacking room st (site s)) d (going heads (step st (site s))) (did .2 st held (proper finite)) (did .1))) refl;
+      stands = λ heads st holds few finite.
+          subst (StandsApart room after heads held (Refused (Refusal.NoRoom number d)))
+          (sym (lacks (lacking room st (site s)) d (going heads (step st (site s))) (did .2 st holds (proper finite)) (did .1))) refl;
     }
-    put-stands (Done counted) after did = record {
+    put-stands (Done more) after did = record {
       lengths = did .0;
-      stands = λ heads st held few finite.
-          let put = did .1 st held (proper finite) in
-          subst (λ (lack : ℕ). Stands room after heads counted Going (within number lack (going heads (step st (site s))))) (sym (put .0)) (refl, refl, put .1 few);
+      stands = λ heads st holds few finite.
+          let put = did .1 st holds (proper finite) in
+          subst (λ (lack : ℕ). StandsApart room after heads more Going (within number lack (going heads (step st (site s))))) (sym (put .0)) (refl, refl, put .1 few);
     }
 
-    pub put-acts : (put : Put) (acted : Acted) (after : Records) → Did r room counts s put after → acted ≡ actedBy number counts put → Acts r room number counts (Keep s) acted after
-    put-acts put acted after did e = subst (λ (a : Acted). Acts r room number counts (Keep s) a after) (sym e) (put-stands put after did)
+    pub put-acts : (put : Put) (acted : Acted) (after : Records) → Did r room held s put after → acted ≡ actedBy number held put → Acts r room number held (Keep s) acted after
+    put-acts put acted after did e = subst (λ (a : Acted). Acts r room number held (Keep s) a after) (sym e) (put-stands put after did)
 
 -- ---- a line
-pub line-taken : (r after : Records) (room : Room) (number : ℕ) (from : Standing) (line : List ℕ) (plan : Plan) (acted : Acted)
-    → plan ≡ planOf number (from .heads) line → Acts r room number (from .counts) (plan .act) acted after
-    → Takes r room number from line (record { heads = plan .heads; counts = acted .counts; halt = acted .halt }) after
+pub line-taken : (r after : Records) (room : Room) (number : ℕ) (from : Stage) (line : List ℕ) (plan : Plan) (acted : Acted)
+    → plan ≡ planOf number (from .heads) line → Acts r room number (from .held) (plan .act) acted after
+    → Takes r room number from line (record { heads = plan .heads; held = acted .held; halt = acted .halt }) after
 unfolding lineRead
 line-taken r after room number from line plan acted e a = record {
   lengths = a .lengths;
-  stands = λ st held few.
-      subst (λ (p : Plan). Stands room after (plan .heads) (acted .counts) (acted .halt) (done room number (p .heads) st (p .act))) e
-      (a .stands (plan .heads) st held few (subst (λ (p : Plan). FiniteIn (p .act)) (sym e) (plan-finite number (from .heads) line)));
+  stands = λ st holds few.
+      subst (λ (p : Plan). StandsApart room after (plan .heads) (acted .held) (acted .halt) (done room number (p .heads) st (p .act))) e
+      (a .stands (plan .heads) st holds few (subst (λ (p : Plan). FiniteIn (p .act)) (sym e) (plan-finite number (from .heads) line)));
 }

@@ -1,4 +1,5 @@
 pub mod ActLaws
+pub mod Gathered
 pub mod LengthLaws
 pub mod PlanLaws
 pub mod UnderWay

@@ -14,16 +14,17 @@ use Rattle.model.specs.Fold.{State, start, step}
 use Rattle.model.specs.Room.{lacking}
 use Rattle.model.specs.Taken.{site}
 use Rattle.model.specs.declared.room.Room.{Room}
-use Rattle.building.specs.Holds.{Records, Within, SameLengths, Holds}
-use Rattle.building.specs.declared.sites.Counts.{Counts}
+use Rattle.building.specs.Gaps.{noneHeld, HoldsApart}
+use Rattle.building.specs.Holds.{Records, Within, SameLengths}
+use Rattle.building.specs.declared.held.Held.{Held}
 use Rattle.building.proofs.SiteLaws.{start-held}
 use Rattle.taking.specs.declared.plans.Act.{Act}
 use Rattle.taking.specs.declared.plans.Act.the-variants.{Pass, Skip, Keep, Refuse}
 use Rattle.taking.specs.declared.taking.Halt.{Halt}
 use Rattle.taking.specs.declared.taking.Halt.the-variants.{Going, Refused}
-use Rattle.taking.specs.declared.taking.Standing.{Standing}
+use Rattle.taking.specs.declared.taking.Stage.{Stage}
 use Rattle.taking.specs.Lines.{Progress, going, halted, within, done, planOf, lineRead, andThen, linesRead}
-use Rattle.taking.specs.Standing.{Stands, noCounts, Takes, onwardTo, ahead, Reads}
+use Rattle.taking.specs.Standing.{StandsApart, Takes, onwardTo, ahead, Passes}
 use Rattle.taking.proofs.LengthLaws.{lengths-same, lengths-then}
 
 -- ---- the invariant
@@ -33,21 +34,21 @@ abbrev Placed : List ℕ → ℕ → ℕ → Progress → Type 0
 Placed text number at (going heads st) = st .rows < number
 Placed text number at (halted why) = at ≡ length text
 
-pub record Reached (text : List ℕ) (room : Room) (target : Progress) (number at : ℕ) (s : Standing) (r : Records) : Type 0 where
+pub record Reached (text : List ℕ) (room : Room) (target : Progress) (number at : ℕ) (s : Stage) (r : Records) : Type 0 where
   pub progress : Progress
-  pub stands : Stands room r (s .heads) (s .counts) (s .halt) progress
+  pub stands : StandsApart room r (s .heads) (s .held) (s .halt) progress
   pub placed : Placed text number at progress
   pub finish : andThen progress (λ heads st. linesRead room number heads st (linesOf (drop at text))) ≡ target
 
 -- the next line begins at this place of the text and has this number; the slices were the first records, and are r now
-pub record UnderWay (text : List ℕ) (room : Room) (first : Records) (target : Progress) (number at : ℕ) (s : Standing) (r : Records) : Type 0 where
+pub record UnderWay (text : List ℕ) (room : Room) (first : Records) (target : Progress) (number at : ℕ) (s : Stage) (r : Records) : Type 0 where
   pub inside : at ≤ length text
   pub numbered : number ≤ at + 1
   pub lengths : SameLengths first r
   pub reached : Within room first → Reached text room target number at s r
 
 -- ---- before the first line
-pub begins : (text : List ℕ) (room : Room) (r : Records) (s : Standing) (at : ℕ) → s .heads ≡ startHeads → s .counts ≡ noCounts → at ≡ onwardTo (s .halt) 0 (length text)
+pub begins : (text : List ℕ) (room : Room) (r : Records) (s : Stage) (at : ℕ) → s .heads ≡ startHeads → s .held ≡ noneHeld → at ≡ onwardTo (s .halt) 0 (length text)
     → UnderWay text room r (ahead (s .halt) (linesRead room 1 startHeads start (linesOf text))) 1 at s r
 begins text room r s at h c = go (s .halt) refl
   where
@@ -58,7 +59,7 @@ begins text room r s at h c = go (s .halt) refl
       lengths = lengths-same r;
       reached = λ w. record {
         progress = going startHeads start;
-        stands = (e, h, subst (λ (k : Counts). Holds r room k start) (sym c) (start-held r room w));
+        stands = (e, h, subst (λ (h : Held). HoldsApart r room h start) (sym c) (start-held r room w));
         placed = omega arith;
         finish = ap (λ (n : ℕ). linesRead room 1 startHeads start (linesOf (drop n text))) place;
       };
@@ -75,11 +76,11 @@ none-left : (room : Room) (number : ℕ) (heads : Heads) (st : State) (text : Li
 unfolding linesRead linesOf
 none-left room number heads st text at h = rw (drop-of-length-le text h)
 
-pub ends : {text : List ℕ} {room : Room} {first : Records} {target : Progress} {number at : ℕ} {s : Standing} {r : Records}
-    → UnderWay text room first target number at s r → length text ≤ at → Reads first room target s r
+pub ends : {text : List ℕ} {room : Room} {first : Records} {target : Progress} {number at : ℕ} {s : Stage} {r : Records}
+    → UnderWay text room first target number at s r → length text ≤ at → Passes first room target s r
 ends {text} {room} {first} {target} {number} {at} {s} {r} u h = record {
   lengths = u .lengths;
-  stands = λ w. let q = u .reached w in subst (Stands room r (s .heads) (s .counts) (s .halt)) (here (q .progress) ∙ q .finish) (q .stands);
+  stands = λ w. let q = u .reached w in subst (StandsApart room r (s .heads) (s .held) (s .halt)) (here (q .progress) ∙ q .finish) (q .stands);
 }
   where
     here : (p : Progress) → p ≡ andThen p (λ heads st. linesRead room number heads st (linesOf (drop at text)))
@@ -119,12 +120,12 @@ pub moves : (text : List ℕ) (at next : ℕ) (line : Line) (halt : Halt) → Li
 moves text at next line Going l more e = (omega (arith, l .moves), omega (arith, l .inside))
 moves text at next line (Refused why) l more e = (omega arith, omega arith)
 
-module _ (text : List ℕ) (room : Room) (first : Records) (target : Progress) (number at : ℕ) (from : Standing) (r : Records)
+module _ (text : List ℕ) (room : Room) (first : Records) (target : Progress) (number at : ℕ) (from : Stage) (r : Records)
     (more : at < length text) (few : length text < 2 ^ 64) (line : Line) (l : LineAt text at line)
-    (to : Standing) (after : Records) (took : Takes r room number from (take (line .end - at) (drop at text)) to after)
+    (to : Stage) (after : Records) (took : Takes r room number from (take (line .end - at) (drop at text)) to after)
     (next : ℕ) (onward : next ≡ onwardTo (to .halt) (line .next) (length text)) where
   abbrev After : Progress → Type 0
-  After p = Stands room after (to .heads) (to .counts) (to .halt) p
+  After p = StandsApart room after (to .heads) (to .held) (to .halt) p
 
   next-placed : (rows : ℕ) (p : Progress) → rows < number → After p → RowsWithin (suc rows) p → Placed text (number + 1) next p
   next-placed rows (going h s) low stands grown = omega arith
@@ -137,7 +138,7 @@ module _ (text : List ℕ) (room : Room) (first : Records) (target : Progress) (
       λ i. linesRead room (add-one number i) h s (linesOf (drop (here i) text))
   same-finish (halted why) stands = refl
 
-  further : number ≤ at + 1 → (p : Progress) → Stands room r (from .heads) (from .counts) (from .halt) p → Placed text number at p
+  further : number ≤ at + 1 → (p : Progress) → StandsApart room r (from .heads) (from .held) (from .halt) p → Placed text number at p
       → andThen p (λ h s. linesRead room number h s (linesOf (drop at text))) ≡ target → Reached text room target (number + 1) next to after
   further numbered (halted why) stands placed finish = absurd (omega arith)
   further numbered (going h st) stands placed finish =

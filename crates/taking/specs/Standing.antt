@@ -8,7 +8,9 @@ use Rattle.states.specs.declared.heads.Heads.{Heads}
 use Rattle.model.specs.Fold.{State}
 use Rattle.model.specs.Proper.{Finite}
 use Rattle.model.specs.declared.room.Room.{Room}
+use Rattle.building.specs.Gaps.{HoldsApart}
 use Rattle.building.specs.Holds.{Records, Within, SameLengths, Holds}
+use Rattle.building.specs.declared.held.Held.{Held}
 use Rattle.building.specs.declared.sites.Counts.{Counts}
 use Rattle.building.specs.declared.sites.Put.{Put}
 use Rattle.building.specs.declared.sites.Put.the-variants.{NoRoom, Done}
@@ -16,6 +18,7 @@ use Rattle.taking.specs.declared.refusals.Refusal.{Refusal}
 use Rattle.taking.specs.declared.taking.Acted.{Acted}
 use Rattle.taking.specs.declared.taking.Halt.{Halt}
 use Rattle.taking.specs.declared.taking.Halt.the-variants.{Going, Refused}
+use Rattle.taking.specs.declared.taking.Stage.{Stage}
 use Rattle.taking.specs.declared.taking.Standing.{Standing}
 use Rattle.taking.specs.declared.plans.Act.{Act}
 use Rattle.taking.specs.declared.plans.Act.the-variants.{Pass, Skip, Keep, Refuse}
@@ -25,14 +28,16 @@ abbrev pub Stands : Room → Records → Heads → Counts → Halt → Progress 
 Stands room r heads counts halt (going h st) = (halt ≡ Going) × (heads ≡ h) × Holds r room counts st
 Stands room r heads counts halt (halted why) = halt ≡ Refused why
 
-abbrev pub noCounts : Counts
-noCounts = record { chains = 0; residues = 0; atoms = 0; rows = 0; skipped = 0; outdone = 0; assumed = 0 }
+-- the same between two lines
+abbrev pub StandsApart : Room → Records → Heads → Held → Halt → Progress → Type 0
+StandsApart room r heads held halt (going h st) = (halt ≡ Going) × (heads ≡ h) × HoldsApart r room held st
+StandsApart room r heads held halt (halted why) = halt ≡ Refused why
 
 -- ---- one line
 
-abbrev pub actedBy : ℕ → Counts → Put → Acted
-actedBy number counts (NoRoom lack) = record { counts = counts; halt = Refused (Refusal.NoRoom number lack) }
-actedBy number counts (Done counted) = record { counts = counted; halt = Going }
+abbrev pub actedBy : ℕ → Held → Put → Acted
+actedBy number held (NoRoom lack) = record { held = held; halt = Refused (Refusal.NoRoom number lack) }
+actedBy number held (Done more) = record { held = more; halt = Going }
 
 -- a site has a finite occupancy
 abbrev pub FiniteIn : Act → Type 0
@@ -41,15 +46,15 @@ FiniteIn Skip = Unit {0}
 FiniteIn (Keep s) = Finite (s .occupancy)
 FiniteIn (Refuse why) = Unit {0}
 
-pub record Acts (r : Records) (room : Room) (number : ℕ) (counts : Counts) (act : Act) (acted : Acted) (after : Records) : Type 0 where
+pub record Acts (r : Records) (room : Room) (number : ℕ) (held : Held) (act : Act) (acted : Acted) (after : Records) : Type 0 where
   pub lengths : SameLengths r after
-  pub stands : (heads : Heads) (st : State) → Holds r room counts st → suc (st .rows) < 2 ^ 64 → FiniteIn act
-      → Stands room after heads (acted .counts) (acted .halt) (done room number heads st act)
+  pub stands : (heads : Heads) (st : State) → HoldsApart r room held st → suc (st .rows) < 2 ^ 64 → FiniteIn act
+      → StandsApart room after heads (acted .held) (acted .halt) (done room number heads st act)
 
-pub record Takes (r : Records) (room : Room) (number : ℕ) (from : Standing) (line : List ℕ) (to : Standing) (after : Records) : Type 0 where
+pub record Takes (r : Records) (room : Room) (number : ℕ) (from : Stage) (line : List ℕ) (to : Stage) (after : Records) : Type 0 where
   pub lengths : SameLengths r after
-  pub stands : (st : State) → Holds r room (from .counts) st → suc (st .rows) < 2 ^ 64
-      → Stands room after (to .heads) (to .counts) (to .halt) (lineRead room number (from .heads) st line)
+  pub stands : (st : State) → HoldsApart r room (from .held) st → suc (st .rows) < 2 ^ 64
+      → StandsApart room after (to .heads) (to .held) (to .halt) (lineRead room number (from .heads) st line)
 
 -- ---- all lines
 
@@ -62,6 +67,10 @@ onwardTo (Refused why) next size = size
 abbrev pub ahead : Halt → Progress → Progress
 ahead Going others = others
 ahead (Refused why) others = halted why
+
+pub record Passes (r : Records) (room : Room) (target : Progress) (to : Stage) (after : Records) : Type 0 where
+  pub lengths : SameLengths r after
+  pub stands : Within room r → StandsApart room after (to .heads) (to .held) (to .halt) target
 
 pub record Reads (r : Records) (room : Room) (target : Progress) (to : Standing) (after : Records) : Type 0 where
   pub lengths : SameLengths r after

@@ -2,8 +2,11 @@
 use crate::plans::Act;
 use crate::plans::plan_of;
 use crate::refusals::Refusal;
+use building::Behind;
 use building::Counts;
+use building::Held;
 use building::Put;
+use building::gather;
 use building::put_site;
 use building::skip_row;
 use model::Room;
@@ -13,10 +16,11 @@ ghost use mathlib.Core.Path.{_≡_};
 ghost use Rattle.lines.specs.Lines.{linesOf};
 ghost use Rattle.states.specs.Heads.{startHeads};
 ghost use Rattle.model.specs.Fold.{start};
+ghost use Rattle.building.specs.Gaps.{noneHeld};
 ghost use Rattle.building.specs.Holds.{recordsOf};
 ghost use Rattle.taking.specs.declared.plans.Act.the-variants.{Keep};
 ghost use Rattle.taking.specs.Lines.{linesRead};
-ghost use Rattle.taking.specs.Standing.{actedBy, onwardTo, noCounts, Acts, Takes, Reads, ahead};
+ghost use Rattle.taking.specs.Standing.{actedBy, onwardTo, Acts, Takes, Passes, Reads, ahead};
 
 pub enum Halt {
     Going,
@@ -24,43 +28,57 @@ pub enum Halt {
 }
 
 pub struct Acted {
-    pub counts: Counts,
+    pub held: Held,
     pub halt: Halt,
 }
 
+// Between two lines.
+pub struct Stage {
+    pub heads: Heads,
+    pub held: Held,
+    pub halt: Halt,
+}
+
+// After the last.
 pub struct Standing {
     pub heads: Heads,
     pub counts: Counts,
     pub halt: Halt,
 }
 
-fn no_counts() -> Counts
-    ensures { λ r. ⌜ r ≡ noCounts ⌝ }
+fn none_held() -> Held
+    ensures { λ r. ⌜ r ≡ noneHeld ⌝ }
 {
-    Counts {
-        chains: 0,
-        residues: 0,
-        atoms: 0,
-        rows: 0,
-        skipped: 0,
-        outdone: 0,
-        assumed: 0,
+    Held {
+        counts: Counts {
+            chains: 0,
+            residues: 0,
+            atoms: 0,
+            rows: 0,
+            skipped: 0,
+            outdone: 0,
+            assumed: 0,
+        },
+        behind: Behind {
+            residues: 0,
+            atoms: 0,
+        },
     }
 }
 
-fn acted_by(number: usize, counts: Counts, put: Put) -> Acted
-    ensures { λ r. ⌜ r ≡ actedBy number counts put ⌝ }
+fn acted_by(number: usize, held: Held, put: Put) -> Acted
+    ensures { λ r. ⌜ r ≡ actedBy number held put ⌝ }
 {
     match put {
         Put::NoRoom(lack) => Acted {
-            counts,
+            held,
             halt: Halt::Refused(Refusal::NoRoom {
                 line: number,
                 lack: lack,
             }),
         },
-        Put::Done(counted) => Acted {
-            counts: counted,
+        Put::Done(more) => Acted {
+            held: more,
             halt: Halt::Going,
         },
     }
@@ -78,10 +96,10 @@ fn put_at(
     occupancies: &mut [f64],
     room: Room,
     number: usize,
-    counts: Counts,
+    held: Held,
     site: Site,
 ) -> Acted
-    ensures { λ r. ⌜ Acts (recordsOf (now (chains .entry)) (now («residue_keys» .entry)) (now («residue_names» .entry)) (now («residue_marks» .entry)) (now («atom_keys» .entry)) (now («atom_names» .entry)) (now (elements .entry)) (now (positions .entry)) (now (occupancies .entry))) room number counts (Keep site) r
+    ensures { λ r. ⌜ Acts (recordsOf (now (chains .entry)) (now («residue_keys» .entry)) (now («residue_names» .entry)) (now («residue_marks» .entry)) (now («atom_keys» .entry)) (now («atom_names» .entry)) (now (elements .entry)) (now (positions .entry)) (now (occupancies .entry))) room number held (Keep site) r
         (recordsOf (now (chains .exit)) (now («residue_keys» .exit)) (now («residue_names» .exit)) (now («residue_marks» .exit)) (now («atom_keys» .exit)) (now («atom_names» .exit)) (now (elements .exit)) (now (positions .exit)) (now (occupancies .exit))) ⌝ }
 {
     let put = put_site(
@@ -95,10 +113,10 @@ fn put_at(
         positions,
         occupancies,
         room,
-        counts,
+        held,
         site,
     );
-    acted_by(number, counts, put)
+    acted_by(number, held, put)
 }
 
 fn do_act(
@@ -113,19 +131,19 @@ fn do_act(
     occupancies: &mut [f64],
     room: Room,
     number: usize,
-    counts: Counts,
+    held: Held,
     act: Act,
 ) -> Acted
-    ensures { λ r. ⌜ Acts (recordsOf (now (chains .entry)) (now («residue_keys» .entry)) (now («residue_names» .entry)) (now («residue_marks» .entry)) (now («atom_keys» .entry)) (now («atom_names» .entry)) (now (elements .entry)) (now (positions .entry)) (now (occupancies .entry))) room number counts act r
+    ensures { λ r. ⌜ Acts (recordsOf (now (chains .entry)) (now («residue_keys» .entry)) (now («residue_names» .entry)) (now («residue_marks» .entry)) (now («atom_keys» .entry)) (now («atom_names» .entry)) (now (elements .entry)) (now (positions .entry)) (now (occupancies .entry))) room number held act r
         (recordsOf (now (chains .exit)) (now («residue_keys» .exit)) (now («residue_names» .exit)) (now («residue_marks» .exit)) (now («atom_keys» .exit)) (now («atom_names» .exit)) (now (elements .exit)) (now (positions .exit)) (now (occupancies .exit))) ⌝ }
 {
     match act {
         Act::Pass => Acted {
-            counts,
+            held,
             halt: Halt::Going,
         },
         Act::Skip => Acted {
-            counts: skip_row(counts),
+            held: skip_row(held),
             halt: Halt::Going,
         },
         Act::Keep(site) => put_at(
@@ -140,11 +158,11 @@ fn do_act(
             occupancies,
             room,
             number,
-            counts,
+            held,
             site,
         ),
         Act::Refuse(why) => Acted {
-            counts,
+            held,
             halt: Halt::Refused(why),
         },
     }
@@ -162,14 +180,14 @@ fn take_line(
     occupancies: &mut [f64],
     room: Room,
     number: usize,
-    from: Standing,
+    from: Stage,
     line: &[u8],
-) -> Standing
+) -> Stage
     ensures { λ r. ⌜ Takes (recordsOf (now (chains .entry)) (now («residue_keys» .entry)) (now («residue_names» .entry)) (now («residue_marks» .entry)) (now («atom_keys» .entry)) (now («atom_names» .entry)) (now (elements .entry)) (now (positions .entry)) (now (occupancies .entry))) room number from (now (line .entry)) r
         (recordsOf (now (chains .exit)) (now («residue_keys» .exit)) (now («residue_names» .exit)) (now («residue_marks» .exit)) (now («atom_keys» .exit)) (now («atom_names» .exit)) (now (elements .exit)) (now (positions .exit)) (now (occupancies .exit))) ⌝ }
 {
     let heads = from.heads;
-    let counts = from.counts;
+    let held = from.held;
     let plan = plan_of(number, heads, line);
     let act = plan.act;
     let acted = do_act(
@@ -184,17 +202,13 @@ fn take_line(
         occupancies,
         room,
         number,
-        counts,
+        held,
         act,
     );
     let heads = plan.heads;
-    let counts = acted.counts;
+    let held = acted.held;
     let halt = acted.halt;
-    Standing {
-        heads,
-        counts,
-        halt,
-    }
+    Stage { heads, held, halt }
 }
 
 // Where to read on: a refusal ends the text.
@@ -208,6 +222,54 @@ fn onward(halt: Halt, next: usize, size: usize) -> usize
 }
 
 // The lines of the text, unless it was refused before them.
+fn take_lines(
+    text: &[u8],
+    halt: Halt,
+    chains: &mut [u64],
+    residue_keys: &mut [u64],
+    residue_names: &mut [u64],
+    residue_marks: &mut [u8],
+    atom_keys: &mut [u64],
+    atom_names: &mut [u64],
+    elements: &mut [u8],
+    positions: &mut [[f64; 3]],
+    occupancies: &mut [f64],
+    room: Room,
+) -> Stage
+    ensures { λ r. ⌜ Passes (recordsOf (now (chains .entry)) (now («residue_keys» .entry)) (now («residue_names» .entry)) (now («residue_marks» .entry)) (now («atom_keys» .entry)) (now («atom_names» .entry)) (now (elements .entry)) (now (positions .entry)) (now (occupancies .entry))) room (ahead halt (linesRead room 1 startHeads start (linesOf (now (text .entry))))) r
+        (recordsOf (now (chains .exit)) (now («residue_keys» .exit)) (now («residue_names» .exit)) (now («residue_marks» .exit)) (now («atom_keys» .exit)) (now («atom_names» .exit)) (now (elements .exit)) (now (positions .exit)) (now (occupancies .exit))) ⌝ }
+{
+    let heads = states::start_heads();
+    let held = none_held();
+    let mut stage = Stage { heads, held, halt };
+    let mut number = 1;
+    let mut at = onward(halt, 0, text.len());
+    while at < text.len() {
+        let line = lines::line_at(text, at);
+        let end = line.end;
+        stage = take_line(
+            chains,
+            residue_keys,
+            residue_names,
+            residue_marks,
+            atom_keys,
+            atom_names,
+            elements,
+            positions,
+            occupancies,
+            room,
+            number,
+            stage,
+            &text[at..end],
+        );
+        let halted = stage.halt;
+        at = onward(halted, line.next, text.len());
+        number += 1;
+    }
+    stage
+}
+
+// The same, with the records gathered.
 pub fn read_lines(
     text: &[u8],
     halt: Halt,
@@ -225,36 +287,38 @@ pub fn read_lines(
     ensures { λ r. ⌜ Reads (recordsOf (now (chains .entry)) (now («residue_keys» .entry)) (now («residue_names» .entry)) (now («residue_marks» .entry)) (now («atom_keys» .entry)) (now («atom_names» .entry)) (now (elements .entry)) (now (positions .entry)) (now (occupancies .entry))) room (ahead halt (linesRead room 1 startHeads start (linesOf (now (text .entry))))) r
         (recordsOf (now (chains .exit)) (now («residue_keys» .exit)) (now («residue_names» .exit)) (now («residue_marks» .exit)) (now («atom_keys» .exit)) (now («atom_names» .exit)) (now (elements .exit)) (now (positions .exit)) (now (occupancies .exit))) ⌝ }
 {
-    let heads = states::start_heads();
-    let counts = no_counts();
-    let mut standing = Standing {
+    let stage = take_lines(
+        text,
+        halt,
+        chains,
+        residue_keys,
+        residue_names,
+        residue_marks,
+        atom_keys,
+        atom_names,
+        elements,
+        positions,
+        occupancies,
+        room,
+    );
+    let held = stage.held;
+    gather(
+        residue_keys,
+        residue_names,
+        residue_marks,
+        atom_keys,
+        atom_names,
+        elements,
+        positions,
+        occupancies,
+        held,
+    );
+    let heads = stage.heads;
+    let counts = held.counts;
+    let halt = stage.halt;
+    Standing {
         heads,
         counts,
         halt,
-    };
-    let mut number = 1;
-    let mut at = onward(halt, 0, text.len());
-    while at < text.len() {
-        let line = lines::line_at(text, at);
-        let end = line.end;
-        standing = take_line(
-            chains,
-            residue_keys,
-            residue_names,
-            residue_marks,
-            atom_keys,
-            atom_names,
-            elements,
-            positions,
-            occupancies,
-            room,
-            number,
-            standing,
-            &text[at..end],
-        );
-        let halted = standing.halt;
-        at = onward(halted, line.next, text.len());
-        number += 1;
     }
-    standing
 }

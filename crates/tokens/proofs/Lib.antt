@@ -5,7 +5,6 @@ pub mod NoTokenIsEmpty
 pub mod PartLaws
 pub mod PutLaws
 pub mod QuoteLaws
-pub mod SequenceLaws
 pub mod SplitLaws
 pub mod TokenInFront
 pub mod TokenLaws

@@ -2,10 +2,8 @@ pub mod Items
 pub mod Kinds
 pub mod Line
 pub mod Quote
-pub mod Sequence
 pub mod Split
 pub mod Splitting
 pub mod Tokens
 pub mod Trim
 pub mod Walk
-pub mod Words

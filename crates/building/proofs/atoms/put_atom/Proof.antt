@@ -1,21 +1,26 @@
--- The place says whether the atom is there.
-use mathlib.Core.Path.{sym, _∙_}
-use Rattle.building.proofs.SliceLaws.{new-there, new-before, better-there, better-before}
+-- Each slice takes what is new; then what is outdone is replaced.
+use Rattle.building.proofs.GapsHeld.{bettered}
 use borrow.Author.Needs.{needs}
 use Rattle.building.proofs.atoms.put_atom.Statement.{statement}
 use Rattle.building.proofs.atoms.put_atom.Tie as tie
 
-enum-known-place : tie.Need-enum-known-place
-enum-known-place c = search needs
+put-u64-requires : tie.Need-put-u64-requires
+put-u64-requires c κs = search needs
+
+put-u64-requires-2 : tie.Need-put-u64-requires-2
+put-u64-requires-2 c κs = search needs
+
+put-u8-requires : tie.Need-put-u8-requires
+put-u8-requires c κs = search needs
+
+put-point-requires : tie.Need-put-point-requires
+put-point-requires c κs = search needs
+
+put-f64-requires : tie.Need-put-f64-requires
+put-f64-requires c κs = search needs
 
 replace-atom-requires : tie.Need-replace-atom-requires
 replace-atom-requires c κs = search needs
-
-enum-known-place-2 : tie.Need-enum-known-place-2
-enum-known-place-2 c = search needs
-
-insert-atom-requires : tie.Need-insert-atom-requires
-insert-atom-requires c κs = search needs
 
 same-length : tie.Need-same-length
 same-length c = search needs
@@ -26,51 +31,26 @@ same-length-2 c = search needs
 same-length-3 : tie.Need-same-length-3
 same-length-3 c = search needs
 
-returns : tie.Need-returns
-returns c =
-    let a = c .before .before .before .before .before .before .before .before .before .before .before .before .before .before .before .before .args in
-    let e = c .before .before .before .before .before .before .before .before .before .before .place .given .1 in
-    let r = c .before .before .before .before .before .replace-atom .ensures in
-    let o = a .occupancies .now in
-    let x = a .occupancy in (
-      sym (new-there _ _ (a .n) (a .key) (a .keys .now) e),
-      (
-        sym (new-there _ _ (a .n) (a .name) (a .names .now) e),
-        (
-          r .0 ∙ sym (better-there _ _ (a .n) (a .element) (a .elements .now) o x e),
-          (r .1 .0 ∙ sym (better-there _ _ (a .n) (a .position) (a .positions .now) o x e), r .1 .1 ∙ sym (better-there _ _ (a .n) x o o x e)),
-        ),
-      ),
-    )
-
 same-length-4 : tie.Need-same-length-4
 same-length-4 c = search needs
 
 same-length-5 : tie.Need-same-length-5
 same-length-5 c = search needs
 
-same-length-6 : tie.Need-same-length-6
-same-length-6 c = search needs
-
-same-length-7 : tie.Need-same-length-7
-same-length-7 c = search needs
-
-same-length-8 : tie.Need-same-length-8
-same-length-8 c = search needs
-
-returns-2 : tie.Need-returns-2
-returns-2 c =
-    let a = c .before .before .before .before .before .before .before .before .before .before .before .before .before .before .before .before .before .before .before .before .before .before .args in
-    let e = c .before .before .before .before .before .before .before .before .before .before .before .before .before .before .before .before .place2 .given .1 in
-    let r = c .before .before .before .before .before .before .before .before .before .insert-atom .ensures in
-    let o = a .occupancies .now in
-    let x = a .occupancy in (
-      r .0 ∙ sym (new-before _ _ (a .n) (a .key) (a .keys .now) e),
+returns : tie.Need-returns
+returns c =
+    let a = c .before .before .before .before .before .before .before .before .before .before .before .before .before .before .before .before .before .before .before .before .before .before .before .before .before .before .before .before .before .before .before .before .args in
+    let r = c .before .before .before .before .before .replace-atom .ensures in
+    let o = c .before .before .before .before .before .before .before .before .before .before .before .put-f64 .ensures in (
+      c .before .before .before .before .before .before .before .before .before .before .before .before .before .before .before .before .before .before .before .before .before .before .before .before .before .before .put-u64 .ensures,
       (
-        r .1 .0 ∙ sym (new-before _ _ (a .n) (a .name) (a .names .now) e),
+        c .before .before .before .before .before .before .before .before .before .before .before .before .before .before .before .before .before .before .before .before .before .before .put-u642 .ensures,
         (
-          r .1 .1 .0 ∙ sym (better-before _ _ (a .n) (a .element) (a .elements .now) o x e),
-          (r .1 .1 .1 .0 ∙ sym (better-before _ _ (a .n) (a .position) (a .positions .now) o x e), r .1 .1 .1 .1 ∙ sym (better-before _ _ (a .n) x o o x e)),
+          bettered (a .front) (a .behind) (a .spot) (a .occupancy) (a .occupancies .now) _ o (a .element) (a .elements .now) _ (c .before .before .before .before .before .before .before .before .before .before .before .before .before .before .before .before .before .before .put-u8 .ensures) _ (r .0),
+          (
+            bettered (a .front) (a .behind) (a .spot) (a .occupancy) (a .occupancies .now) _ o (a .position) (a .positions .now) _ (c .before .before .before .before .before .before .before .before .before .before .before .before .before .before .put-point .ensures) _ (r .1 .0),
+            bettered (a .front) (a .behind) (a .spot) (a .occupancy) (a .occupancies .now) _ o (a .occupancy) (a .occupancies .now) _ o _ (r .1 .1),
+          ),
         ),
       ),
     )
@@ -79,17 +59,15 @@ pub put-atom-spec : {M : Type 1} → statement M
 put-atom-spec =
     tie.close
     (tie.spec
-    enum-known-place
+    put-u64-requires
+    put-u64-requires-2
+    put-u8-requires
+    put-point-requires
+    put-f64-requires
     replace-atom-requires
-    enum-known-place-2
-    insert-atom-requires
     same-length
     same-length-2
     same-length-3
-    returns
     same-length-4
     same-length-5
-    same-length-6
-    same-length-7
-    same-length-8
-    returns-2)
+    returns)

@@ -1,64 +1,49 @@
--- Each test in turn is that of the definition.
-use mathlib.Core.Path.{_≡_, sym, ap, _∙_}
+-- Each test is one of the definition, in its order.
+use mathlib.Core.Path.{_≡_, sym, _∙_}
 use mathlib.Core.Bool.{Bool, true, false}
-use Rattle.model.specs.Room.{noRoom}
 use Rattle.building.proofs.CountLaws.{noChain, noResidue, noAtom, lacks-chain, lacks-residue, lacks-atom, lacks-none}
 use borrow.Author.Needs.{needs}
 use Rattle.building.proofs.sites.lack_of.Statement.{statement}
 use Rattle.building.proofs.sites.lack_of.Tie as tie
 
 -- what lacks room, as the tests say it
-chain-test : (p : tie.After-has-no-room) (t : Bool) → p .has-no-room .result ≡ t → noChain (p .before .before .before .args .room) (p .before .before .before .args .counts) (p .before .before .before .args .places) ≡ t
+chain-test : (p : tie.After-has-no-room) (t : Bool) → p .has-no-room .result ≡ t → let a = p .before .before .before .args in noChain (a .room) (a .counts) (a .places) ≡ t
 chain-test p t e = sym (p .has-no-room .ensures) ∙ e
 
-residue-test : (p : tie.After-has-no-room2) (t : Bool) → p .has-no-room2 .result ≡ t → noResidue (p .before .before .before .before .before .before .args .room) (p .before .before .before .before .before .before .args .counts) (p .before .before .before .before .before .before .args .places) ≡ t
-residue-test p t e =
-    let a = p .before .before .before .before .before .before .args in
-    sym (p .has-no-room2 .ensures ∙ ap (λ (u : Bool). noRoom u (a .room .residues) (a .counts .residues)) (p .before .is-new .ensures)) ∙ e
+residue-test : (p : tie.After-has-no-room2) (t : Bool) → p .has-no-room2 .result ≡ t → let a = p .before .before .before .before .before .before .args in noResidue (a .room) (a .counts) (a .places) ≡ t
+residue-test p t e = sym (p .has-no-room2 .ensures) ∙ e
 
-atom-test : (p : tie.After-has-no-room3) (t : Bool) → p .has-no-room3 .result ≡ t → noAtom (p .before .before .before .before .before .before .before .before .before .args .room) (p .before .before .before .before .before .before .before .before .before .args .counts) (p .before .before .before .before .before .before .before .before .before .args .places) ≡ t
-atom-test p t e =
-    let a = p .before .before .before .before .before .before .before .before .before .args in
-    sym (p .has-no-room3 .ensures ∙ ap (λ (u : Bool). noRoom u (a .room .atoms) (a .counts .atoms)) (p .before .is-new2 .ensures)) ∙ e
+atom-test : (p : tie.After-has-no-room3) (t : Bool) → p .has-no-room3 .result ≡ t → let a = p .before .before .before .before .before .before .before .before .before .args in noAtom (a .room) (a .counts) (a .places) ≡ t
+atom-test p t e = sym (p .has-no-room3 .ensures) ∙ e
 
 has-no-room-requires : tie.Need-has-no-room-requires
 has-no-room-requires c κs = search needs
 
 returns : tie.Need-returns
-returns c =
-    let s = c .before .before .before .before in
-    sym (lacks-chain (s .args .room) (s .args .counts) (s .args .places) (chain-test (c .before) true (c .if1 .taken)))
-
-is-new-requires : tie.Need-is-new-requires
-is-new-requires c κs = search needs
+returns c = let a = c .before .before .before .before .args in sym (lacks-chain (a .room) (a .counts) (a .places) (chain-test (c .before) true (c .if1 .taken)))
 
 has-no-room-requires-2 : tie.Need-has-no-room-requires-2
 has-no-room-requires-2 c κs = search needs
 
 returns-2 : tie.Need-returns-2
 returns-2 c =
-    let s = c .before .before .before .before .before .before .before in
-    sym (lacks-residue (s .args .room) (s .args .counts) (s .args .places) (chain-test (c .before .before .before .before) false (c .before .before .before .if1 .left)) (residue-test (c .before) true (c .if2 .taken)))
-
-is-new-requires-2 : tie.Need-is-new-requires-2
-is-new-requires-2 c κs = search needs
+    let a = c .before .before .before .before .before .before .before .args in
+    sym (lacks-residue (a .room) (a .counts) (a .places) (chain-test (c .before .before .before .before) false (c .before .before .before .if1 .left)) (residue-test (c .before) true (c .if2 .taken)))
 
 has-no-room-requires-3 : tie.Need-has-no-room-requires-3
 has-no-room-requires-3 c κs = search needs
 
 returns-3 : tie.Need-returns-3
 returns-3 c =
-    let s = c .before .before .before .before .before .before .before .before .before .before in
+    let a = c .before .before .before .before .before .before .before .before .before .before .args in
     sym
-    (lacks-atom (s .args .room) (s .args .counts) (s .args .places) (chain-test (c .before .before .before .before .before .before .before) false (c .before .before .before .before .before .before .if1 .left)) (residue-test (c .before .before .before .before) false (c .before .before .before .if2 .left))
-    (atom-test (c .before) true (c .if3 .taken)))
+    (lacks-atom (a .room) (a .counts) (a .places) (chain-test (c .before .before .before .before .before .before .before) false (c .before .before .before .before .before .before .if1 .left)) (residue-test (c .before .before .before .before) false (c .before .before .before .if2 .left)) (atom-test (c .before) true (c .if3 .taken)))
 
 returns-4 : tie.Need-returns-4
 returns-4 c =
-    let s = c .before .before .before .before .before .before .before .before .before .before in
+    let a = c .before .before .before .before .before .before .before .before .before .before .args in
     sym
-    (lacks-none (s .args .room) (s .args .counts) (s .args .places) (chain-test (c .before .before .before .before .before .before .before) false (c .before .before .before .before .before .before .if1 .left)) (residue-test (c .before .before .before .before) false (c .before .before .before .if2 .left))
-    (atom-test (c .before) false (c .if3 .left)))
+    (lacks-none (a .room) (a .counts) (a .places) (chain-test (c .before .before .before .before .before .before .before) false (c .before .before .before .before .before .before .if1 .left)) (residue-test (c .before .before .before .before) false (c .before .before .before .if2 .left)) (atom-test (c .before) false (c .if3 .left)))
 
 pub lack-of-spec : {M : Type 1} → statement M
 lack-of-spec =
@@ -66,10 +51,8 @@ lack-of-spec =
     (tie.spec
     has-no-room-requires
     returns
-    is-new-requires
     has-no-room-requires-2
     returns-2
-    is-new-requires-2
     has-no-room-requires-3
     returns-3
     returns-4)

@@ -1,10 +1,11 @@
 -- What lacks the room is what the model lacks, and else what is stored is the model's next step.
 use mathlib.Core.Path.{_≡_, refl, sym, _∙_, subst}
 use native.Mathlib.Omega.{arith}
-use Rattle.model.specs.declared.room.Room.{Room}
-use Rattle.model.specs.Fold.{State}
-use Rattle.building.specs.declared.sites.Counts.{Counts}
-use Rattle.building.specs.Holds.{Records, SameLengths, Holds}
+use Rattle.model.specs.Fold.{step}
+use Rattle.model.specs.Taken.{site}
+use Rattle.building.specs.declared.held.Held.{Held}
+use Rattle.building.specs.Gaps.{HoldsApart}
+use Rattle.building.specs.Holds.{Records, recordsOf}
 use Rattle.building.specs.Sites.{lackOf}
 use Rattle.building.proofs.RoomInSlices.{lengths-stay}
 use Rattle.building.proofs.SiteLaws.{lack-is, site-held}
@@ -12,25 +13,12 @@ use borrow.Author.Needs.{needs}
 use Rattle.building.proofs.sites.put_site.Statement.{statement}
 use Rattle.building.proofs.sites.put_site.Tie as tie
 
--- the slices at entry
+-- the slices at entry, and as the site leaves them
 abbrev entry : tie.Start → Records
-entry s = record {
-  chains = s .args .chains .now;
-  residueKeys = s .args .residue-keys .now;
-  residueNames = s .args .residue-names .now;
-  residueMarks = s .args .residue-marks .now;
-  atomKeys = s .args .atom-keys .now;
-  atomNames = s .args .atom-names .now;
-  elements = s .args .elements .now;
-  positions = s .args .positions .now;
-  occupancies = s .args .occupancies .now;
-}
+entry t = let a = t .args in recordsOf (a .chains .now) (a .residue-keys .now) (a .residue-names .now) (a .residue-marks .now) (a .atom-keys .now) (a .atom-names .now) (a .elements .now) (a .positions .now) (a .occupancies .now)
 
-abbrev start : tie.After-lack-of → tie.Start
-start l = l .before .before .before .before .before .before .before .before .before .before .before .before .before .before
-
-held-as : {a b : Records} {c d : Counts} (room : Room) (st : State) → a ≡ b → c ≡ d → Holds b room d st → Holds a room c st
-held-as {a} {b} {c} {d} room st e f h = subst (λ (x : Records). Holds x room c st) (sym e) (subst (λ (x : Counts). Holds b room x st) (sym f) h)
+abbrev left : tie.After-store-site → Records
+left p = let l = p .store-site .last in recordsOf (l .0) (l .1 .0) (l .1 .1 .0) (l .1 .1 .1 .0) (l .1 .1 .1 .1 .0) (l .1 .1 .1 .1 .1 .0) (l .1 .1 .1 .1 .1 .1 .0) (l .1 .1 .1 .1 .1 .1 .1 .0) (l .1 .1 .1 .1 .1 .1 .1 .1 .0)
 
 places-of-requires : tie.Need-places-of-requires
 places-of-requires c κs = search needs
@@ -52,17 +40,15 @@ same-length-4 c = search needs
 
 returns : tie.Need-returns
 returns c =
-    let l = c .before in
-    let t = start l in
-    let q = l .before .places-of in
-    let a = t .args in
-    (refl, c .if1 .taken, λ st h w. sym (lack-is (entry t) (a .room) (a .counts) (a .site) (q .result) (q .ensures) st h w) ∙ sym (l .lack-of .ensures))
+    let a = c .before .before .before .before .before .before .before .before .before .before .before .before .before .before .before .before .args in
+    let q = c .before .before .before .places-of in
+    (refl {a = entry (c .before .before .before .before .before .before .before .before .before .before .before .before .before .before .before .before)}, c .if1 .taken, λ st h w. sym (lack-is (entry (c .before .before .before .before .before .before .before .before .before .before .before .before .before .before .before .before)) (a .room) (a .held) (a .site) (q .result) (q .ensures) st h w) ∙ sym (c .before .lack-of .ensures))
 
 store-site-requires : tie.Need-store-site-requires
 store-site-requires c κs = search needs
 
-counted-with-requires : tie.Need-counted-with-requires
-counted-with-requires c κs = search needs
+held-with-requires : tie.Need-held-with-requires
+held-with-requires c κs = search needs
 
 same-length-5 : tie.Need-same-length-5
 same-length-5 c = search needs
@@ -93,18 +79,18 @@ same-length-13 c = search needs
 
 returns-2 : tie.Need-returns-2
 returns-2 c =
-    let l = c .before .before .before .before .before .before .before .before .before .before .before .before .before .before .before .before .before .before .before .before .before .before .before .before .before .before .before .before .before in
-    let t = start l in
-    let q = l .before .places-of in
-    let r = entry t in
-    let a = t .args in
-    let none : l .lack-of .result ≡ 0 = omega (arith, c .before .before .before .before .before .before .before .before .before .before .before .before .before .before .before .before .before .before .before .before .before .before .before .before .before .before .before .before .if1 .left) in
-    let roomy : lackOf (a .room) (a .counts) (q .result) ≡ 0 = sym (l .lack-of .ensures) ∙ none in
+    let a = c .before .before .before .before .before .before .before .before .before .before .before .before .before .before .before .before .before .before .before .before .before .before .before .before .before .before .before .before .before .before .before .before .before .before .before .before .before .before .before .before .before .before .before .before .args in
+    let q = c .before .before .before .before .before .before .before .before .before .before .before .before .before .before .before .before .before .before .before .before .before .before .before .before .before .before .before .before .before .before .before .places-of in
+    let r = entry (c .before .before .before .before .before .before .before .before .before .before .before .before .before .before .before .before .before .before .before .before .before .before .before .before .before .before .before .before .before .before .before .before .before .before .before .before .before .before .before .before .before .before .before .before) in
+    let lack = c .before .before .before .before .before .before .before .before .before .before .before .before .before .before .before .before .before .before .before .before .before .before .before .before .before .before .before .before .before .lack-of in
+    let none : lack .result ≡ 0 = omega (arith, c .before .before .before .before .before .before .before .before .before .before .before .before .before .before .before .before .before .before .before .before .before .before .before .before .before .before .before .before .if1 .left) in
+    let roomy : lackOf (a .room) (a .held .counts) (q .result) ≡ 0 = sym (lack .ensures) ∙ none in
     let stored = c .before .before .before .before .before .before .before .before .before .before .before .before .before .before .before .before .before .before .store-site .ensures in (
-      subst (SameLengths r) (sym stored) (lengths-stay r (a .counts) (q .result) (a .site)),
+      lengths-stay {r = r} {after = left (c .before .before .before .before .before .before .before .before .before .before .before .before .before .before .before .before .before .before)} stored,
       λ st h w. (
-        sym (lack-is r (a .room) (a .counts) (a .site) (q .result) (q .ensures) st h w) ∙ roomy,
-        λ few. held-as (a .room) _ stored (c .counted-with .ensures) (site-held r (a .room) (a .counts) (a .site) (q .result) (q .ensures) st h w roomy few),
+        sym (lack-is r (a .room) (a .held) (a .site) (q .result) (q .ensures) st h w) ∙ roomy,
+        λ few. subst (λ (d : Held). HoldsApart (left (c .before .before .before .before .before .before .before .before .before .before .before .before .before .before .before .before .before .before)) (a .room) d (step st (site (a .site)))) (sym (c .held-with .ensures))
+            (site-held r (a .room) (a .held) (a .site) (q .result) (q .ensures) st h w roomy (left (c .before .before .before .before .before .before .before .before .before .before .before .before .before .before .before .before .before .before)) stored few),
       ),
     )
 
@@ -120,7 +106,7 @@ put-site-spec =
     same-length-4
     returns
     store-site-requires
-    counted-with-requires
+    held-with-requires
     same-length-5
     same-length-6
     same-length-7

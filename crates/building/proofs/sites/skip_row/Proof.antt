@@ -11,10 +11,14 @@ one-more-requires-2 c κs = search needs
 
 returns : tie.Need-returns
 returns c =
-    let k = c .before .before .args .counts in
+    let h = c .before .before .before .before .args .held in
+    let k = h .counts in
     let e = c .before .one-more .ensures in
     let f = c .one-more2 .ensures in
-    λ i. record { chains = k .chains; residues = k .residues; atoms = k .atoms; rows = e i; skipped = f i; outdone = k .outdone; assumed = k .assumed }
+    λ i. record {
+      counts = record { chains = k .chains; residues = k .residues; atoms = k .atoms; rows = e i; skipped = f i; outdone = k .outdone; assumed = k .assumed };
+      behind = h .behind;
+    }
 
 pub skip-row-spec : {M : Type 1} → statement M
 skip-row-spec = tie.close (tie.spec one-more-requires one-more-requires-2 returns)

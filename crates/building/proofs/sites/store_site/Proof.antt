@@ -1,9 +1,7 @@
--- One equation to a slice, from the function that stores it.
-use mathlib.Core.Path.{ap, _∙_}
-use mathlib.Core.List.{List}
-use Prim.Native.Nat.{ℕ}
-use lib.Ieee.{Float}
-use Rattle.building.specs.Slices.{newAt, betterAt, outdoes}
+-- One line to a slice, from the function that puts it in.
+use mathlib.Core.Path.{refl, ap, _∙_}
+use lib.ListN.{length, length-set}
+use Rattle.building.proofs.ShownAlike.{put-alike, better-alike}
 use borrow.Author.Needs.{needs}
 use Rattle.building.proofs.sites.store_site.Statement.{statement}
 use Rattle.building.proofs.sites.store_site.Tie as tie
@@ -14,17 +12,23 @@ store-u64-requires c κs = search needs
 mark-of-requires : tie.Need-mark-of-requires
 mark-of-requires c κs = search needs
 
+rest-requires : tie.Need-rest-requires
+rest-requires c κs = search needs
+
 put-residue-requires : tie.Need-put-residue-requires
 put-residue-requires c κs = search needs
 
 point-of-requires : tie.Need-point-of-requires
 point-of-requires c κs = search needs
 
+rest-requires-2 : tie.Need-rest-requires-2
+rest-requires-2 c κs = search needs
+
 put-atom-requires : tie.Need-put-atom-requires
 put-atom-requires c κs = search needs
 
 same-length : tie.Need-same-length
-same-length c = search needs
+same-length c = ap length (c .before .before .before .before .before .before .before .before .before .before .before .before .before .before .before .before .before .before .before .before .before .before .before .before .before .before .before .before .before .before .before .store-u64 .ensures) ∙ simp length-set
 
 same-length-2 : tie.Need-same-length-2
 same-length-2 c = search needs
@@ -52,24 +56,24 @@ same-length-9 c = search needs
 
 returns : tie.Need-returns
 returns c =
-    let a = c .before .before .before .before .before .before .before .before .before .before .before .before .before .before .before .before .before .before .before .before .before .before .before .before .before .before .before .before .before .before .before .before .before .before .before .before .before .before .before .args in
+    let a = c .before .before .before .before .before .before .before .before .before .before .before .before .before .before .before .before .before .before .before .before .before .before .before .before .before .before .before .before .before .before .before .before .before .before .before .before .before .before .before .before .before .before .before .before .before .args in
     let p = a .places in
-    let r = c .before .before .before .before .before .before .before .before .before .before .before .before .before .before .before .before .before .before .before .before .before .before .put-residue .ensures in
+    let s = a .site in
+    let r = c .before .before .before .before .before .before .before .before .before .before .before .before .before .before .before .before .before .before .before .before .before .before .before .put-residue .ensures in
     let t = c .before .before .before .before .before .before .before .before .before .put-atom .ensures in
-    let better = outdoes (p .atom) (a .occupancies .now) (a .site .occupancy) in
-    let e0 = c .before .before .before .before .before .before .before .before .before .before .before .before .before .before .before .before .before .before .before .before .before .before .before .before .before .before .before .before .before .store-u64 .ensures in
-    let e3 = r .1 .1 ∙ ap (λ (v : ℕ). newAt (p .residue) (a .counts .residues) v (a .residue-marks .now)) (c .before .before .before .before .before .before .before .before .before .before .before .before .before .before .before .before .before .before .before .before .before .before .before .before .before .before .mark-of .ensures) in
-    let e7 = t .1 .1 .1 .0 ∙ ap (λ (v : List Float). betterAt (p .atom) better (a .counts .atoms) v (a .positions .now)) (c .before .before .before .before .before .before .before .before .before .before .before .before .before .before .before .point-of .ensures) in
-    λ i. record {
-      chains = e0 i;
-      residueKeys = r .0 i;
-      residueNames = r .1 .0 i;
-      residueMarks = e3 i;
-      atomKeys = t .0 i;
-      atomNames = t .1 .0 i;
-      elements = t .1 .1 .0 i;
-      positions = e7 i;
-      occupancies = t .1 .1 .1 .1 i;
+    let e = c .before .before .before .before .before .before .before .before .before .before .before .before .before .before .before .before .before .before .before .before .before .before .before .before .before .before .before .rest .ensures in
+    let f = c .before .before .before .before .before .before .before .before .before .before .before .before .before .before .before .rest2 .ensures in
+    let mark = c .before .before .before .before .before .before .before .before .before .before .before .before .before .before .before .before .before .before .before .before .before .before .before .before .before .before .before .before .mark-of in
+    record {
+      chains = c .before .before .before .before .before .before .before .before .before .before .before .before .before .before .before .before .before .before .before .before .before .before .before .before .before .before .before .before .before .before .before .store-u64 .ensures;
+      residueKeys = put-alike _ _ _ (p .residue) (p .key) (p .key) _ _ e refl (r .0);
+      residueNames = put-alike _ _ _ (p .residue) (s .residue) (s .residue) _ _ e refl (r .1 .0);
+      residueMarks = put-alike _ _ _ (p .residue) (mark .result) _ _ _ e (mark .ensures) (r .1 .1);
+      atomKeys = put-alike _ _ _ (p .atom) (p .key) (p .key) _ _ f refl (t .0);
+      atomNames = put-alike _ _ _ (p .atom) (s .atom) (s .atom) _ _ f refl (t .1 .0);
+      elements = better-alike f refl (t .1 .1 .0);
+      positions = better-alike f (c .before .before .before .before .before .before .before .before .before .before .before .before .before .before .before .before .point-of .ensures) (t .1 .1 .1 .0);
+      occupancies = better-alike f refl (t .1 .1 .1 .1);
     }
 
 pub store-site-spec : {M : Type 1} → statement M
@@ -78,8 +82,10 @@ store-site-spec =
     (tie.spec
     store-u64-requires
     mark-of-requires
+    rest-requires
     put-residue-requires
     point-of-requires
+    rest-requires-2
     put-atom-requires
     same-length
     same-length-2

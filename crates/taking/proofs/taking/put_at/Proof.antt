@@ -51,7 +51,7 @@ returns c =
     let t = c .before .before .before .before .before .before .before .before .before .before .before .before .before .before .before .before .before .before .before .before .before .before .before .before .before .before .before .before .before .before .before .before .before .before .before .before in
     let a = t .args in
     let g = t .good .1 .1 .1 .1 .1 .1 .1 .1 .1 .1 .1 .1 .0 .1 .1 in
-    put-acts (entry t) (a .room) (a .number) (a .counts) (a .site)
+    put-acts (entry t) (a .room) (a .number) (a .held) (a .site)
     (λ finite. record { sequence = g .1 .0 .1; code = g .1 .1 .0 .1; atom = g .1 .1 .1 .1 .1 .0 .1; occupancy = finite })
     (p .result) (c .acted-by .result) (left (c .before .before .before .before .before .before .before .before .before .before .before .before .before .before .before .before .before .before)) (p .ensures) (c .acted-by .ensures)
 

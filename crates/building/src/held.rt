@@ -1,0 +1,24 @@
+// What is held while rows are read: the counts, and how many of the records stand behind a gap, at the end of their slices.
+use crate::sites::Counts;
+ghost use mathlib.Core.Path.{_≡_};
+ghost use Prim.Native.Nat.{_-_};
+
+pub struct Behind {
+    pub residues: usize,
+    pub atoms: usize,
+}
+
+pub struct Held {
+    pub counts: Counts,
+    pub behind: Behind,
+}
+
+// How many are left without so many of them; none where there are fewer.
+pub(crate) fn rest(many: usize, without: usize) -> usize
+    ensures { λ r. ⌜ r ≡ many - without ⌝ }
+{
+    if many < without {
+        return 0;
+    }
+    many - without
+}

@@ -1,0 +1,47 @@
+-- The index stays between where it began and the end, and each line has a byte.
+use Prim.Native.Nat.{_-_, _≤_}
+use lib.ListN.{length}
+use borrow.Author.Needs.{needs}
+use Rattle.samples.proofs.tables.behind_lines.Statement.{statement}
+use Rattle.samples.proofs.tables.behind_lines.Tie as tie
+
+abbrev Inv-loop : tie.InvT-loop
+Inv-loop table from i₀ i = (from ≤ i) × (i ≤ length table)
+
+abbrev μ-loop : tie.MeasureT-loop
+μ-loop table from i₀ i = length table - i
+
+loop-holds : tie.Need-loop-holds Inv-loop μ-loop
+loop-holds c = search needs
+
+shared-slice-read-if1 : tie.Need-shared-slice-read-if1 Inv-loop μ-loop
+shared-slice-read-if1 c = search needs
+
+returns : tie.Need-returns Inv-loop μ-loop
+returns c = search needs
+
+behind-line-requires : tie.Need-behind-line-requires Inv-loop μ-loop
+behind-line-requires c κs = search needs
+
+loop-less : tie.Need-loop-less Inv-loop μ-loop
+loop-less c = search needs
+
+loop-again : tie.Need-loop-again Inv-loop μ-loop
+loop-again c = search needs
+
+returns-2 : tie.Need-returns-2 Inv-loop μ-loop
+returns-2 c = search needs
+
+pub behind-lines-spec : {M : Type 1} → statement M
+behind-lines-spec =
+    tie.close
+    (tie.spec
+    Inv-loop
+    μ-loop
+    loop-holds
+    shared-slice-read-if1
+    returns
+    behind-line-requires
+    loop-less
+    loop-again
+    returns-2)

@@ -1,0 +1,9 @@
+pub mod CallLaws
+pub mod CountsAreSmall
+pub mod NumbersFit
+pub mod OwnRoom
+pub mod RefusalsAreSmall
+pub mod ResultLaws
+pub mod ServedFits
+pub mod ServingLaws
+pub mod WrittenAsRead

@@ -1,0 +1,105 @@
+// The reader through C conventions: what it answers in ten numbers, and the model in the slices.
+use building::Counts;
+use reader::Answer;
+use records::store_u64;
+ghost use mathlib.Core.Path.{_≡_};
+ghost use lib.Seq.{sets};
+ghost use Rattle.model.specs.Lent.{lentOf};
+ghost use Rattle.structures.specs.Readings.{numberIn, lineIn, detailIn, countsIn, numbersOf, ReadInto};
+
+fn number_in(answer: Answer) -> u8
+    ensures { λ r. ⌜ r ≡ numberIn answer ⌝ }
+{
+    match answer {
+        Answer::Read(_) => 0,
+        Answer::Refused(why) => why.number(),
+    }
+}
+
+fn line_in(answer: Answer) -> usize
+    ensures { λ r. ⌜ r ≡ lineIn answer ⌝ }
+{
+    match answer {
+        Answer::Read(_) => 0,
+        Answer::Refused(why) => why.line(),
+    }
+}
+
+fn detail_in(answer: Answer) -> usize
+    ensures { λ r. ⌜ r ≡ detailIn answer ⌝ }
+{
+    match answer {
+        Answer::Read(_) => 0,
+        Answer::Refused(why) => why.detail(),
+    }
+}
+
+fn counts_in(answer: Answer) -> Counts
+    ensures { λ r. ⌜ r ≡ countsIn answer ⌝ }
+{
+    match answer {
+        Answer::Read(counts) => counts,
+        Answer::Refused(_) => Counts {
+            chains: 0,
+            residues: 0,
+            atoms: 0,
+            rows: 0,
+            skipped: 0,
+            outdone: 0,
+            assumed: 0,
+        },
+    }
+}
+
+fn put_numbers(numbers: &mut [u64], answer: Answer)
+    ensures { λ _. ⌜ now (numbers .exit) ≡ sets (now (numbers .entry)) 0 (numbersOf answer) ⌝ }
+{
+    let counts = counts_in(answer);
+    store_u64(numbers, 0, number_in(answer) as u64);
+    store_u64(numbers, 1, line_in(answer) as u64);
+    store_u64(numbers, 2, detail_in(answer) as u64);
+    store_u64(numbers, 3, counts.chains as u64);
+    store_u64(numbers, 4, counts.residues as u64);
+    store_u64(numbers, 5, counts.atoms as u64);
+    store_u64(numbers, 6, counts.rows as u64);
+    store_u64(numbers, 7, counts.skipped as u64);
+    store_u64(numbers, 8, counts.outdone as u64);
+    store_u64(numbers, 9, counts.assumed as u64);
+}
+
+// Number, line and detail of a refusal, then chains, residues, atoms, rows, skipped, outdone and assumed; zeros for what there is none of.
+#[no_mangle]
+pub extern "C" fn probe_read(
+    text: &[u8],
+    chains: &mut [u64],
+    residue_keys: &mut [u64],
+    residue_names: &mut [u64],
+    residue_codes: &mut [u8],
+    residue_categories: &mut [u8],
+    residue_positions: &mut [u8],
+    atom_keys: &mut [u64],
+    atom_names: &mut [u64],
+    elements: &mut [u8],
+    positions: &mut [[f64; 3]],
+    occupancies: &mut [f64],
+    numbers: &mut [u64],
+)
+    ensures { λ _. ⌜ ReadInto (lentOf (now (chains .entry)) (now («residue_keys» .entry)) (now («residue_names» .entry)) (now («residue_codes» .entry)) (now («residue_categories» .entry)) (now («residue_positions» .entry)) (now («atom_keys» .entry)) (now («atom_names» .entry)) (now (elements .entry)) (now (positions .entry)) (now (occupancies .entry))) (now (text .entry)) (now (numbers .entry)) (now (numbers .exit))
+        (lentOf (now (chains .exit)) (now («residue_keys» .exit)) (now («residue_names» .exit)) (now («residue_codes» .exit)) (now («residue_categories» .exit)) (now («residue_positions» .exit)) (now («atom_keys» .exit)) (now («atom_names» .exit)) (now (elements .exit)) (now (positions .exit)) (now (occupancies .exit))) ⌝ }
+{
+    let answer = reader::read(
+        text,
+        chains,
+        residue_keys,
+        residue_names,
+        residue_codes,
+        residue_categories,
+        residue_positions,
+        atom_keys,
+        atom_names,
+        elements,
+        positions,
+        occupancies,
+    );
+    put_numbers(numbers, answer);
+}

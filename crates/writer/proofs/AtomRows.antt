@@ -1,0 +1,35 @@
+-- The row of an atom, by the residue where the walk stands and its number, is the row of the model.
+use mathlib.Core.Path.{_≡_}
+use mathlib.Core.Bool.{true}
+use Prim.Native.Nat.{ℕ, _<_}
+use lib.ListN.{getD, take}
+use Rattle.model.specs.Keys.{chainPart, sequencePart, codePart}
+use Rattle.model.specs.Lent.{Lent, atomIn, modelIn}
+use Rattle.model.specs.TakenOut.{residueOut, atomOut}
+use Rattle.model.specs.Termini.{isPolymer}
+use Rattle.model.specs.WellFormed.{wellFormedIn}
+use Rattle.writer.specs.Text.{entityOf, atomRowOf}
+use Rattle.writer.specs.Walking.{rowBy}
+use Rattle.writer.specs.declared.walking.Walk.{Walk}
+use Rattle.writer.proofs.ModelWalk.{walkedOn, Walked, walk-residue, walk-number}
+
+module _ (l : Lent) (chains residues atoms : ℕ) (well : wellFormedIn l chains residues atoms ≡ true) (i : ℕ) (h : i < atoms) (w : Walk) (before : Walked l residues atoms i w) where
+  pub row-is : (id : ℕ) → rowBy (take chains (l .chains)) id (atomOut (atomIn l i)) (walkedOn l i w) ≡ atomRowOf (modelIn l chains residues atoms) id (atomIn l i)
+  unfolding atomOut residueOut modelIn
+  row-is id =
+      let a = atomIn l i in
+      let residue = walk-residue l chains residues atoms well i h w before in
+      let number = walk-number l chains residues atoms well i h w before in
+      λ k. record {
+        polymer = isPolymer (residue k .code);
+        id = id;
+        element = a .element;
+        atom = a .name;
+        residue = residue k .name;
+        chain = getD (take chains (l .chains)) (chainPart (a .key)) 0;
+        entity = entityOf (a .key);
+        number = number k;
+        «insertion_code» = codePart (a .key);
+        position = a .position;
+        sequence = sequencePart (a .key);
+      }

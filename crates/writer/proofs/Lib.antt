@@ -1,0 +1,15 @@
+pub mod AtomRows
+pub mod ListsByIndex
+pub mod ModelWalk
+pub mod NameBytes
+pub mod NothingEmitted
+pub mod NumberWalk
+pub mod PolymerList
+pub mod ResiduesByIndex
+pub mod RowsJoined
+pub mod RunWalk
+pub mod TextIsShort
+pub mod Unwritten
+pub mod WellFormedParts
+pub mod WorkedWriting
+pub mod WritingLaws

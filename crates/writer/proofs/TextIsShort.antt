@@ -1,0 +1,190 @@
+-- Each field has at most 25 bytes, so each row fewer than 512, and the text of as many residues and atoms as document 01 allows is below 2 ^ 32.
+use mathlib.Core.Path.{_≡_}
+use mathlib.Core.Bool.{Bool, true, false, cond}
+use mathlib.Core.List.{List, [], _∷_, _++_}
+use Prim.Native.Nat.{ℕ, suc, _+_, _-_, _*_, _/_, _^_, _≤_, _<_}
+use native.Mathlib.Omega.{arith}
+use lib.Dec.{eqb, ltb}
+use lib.Ieee.{Float}
+use lib.ListN.{length, length-append}
+use Rattle.ascii.specs.Bytes.{byte, bytes}
+use Rattle.numbers.specs.Printing.{lastDigits, digitCount, sign, fixedText, textOf}
+use Rattle.numbers.specs.Rounding.{isNegative, unitsOf}
+use Rattle.numbers.proofs.PrintingLaws.{digit-count-fits, digits-length, sign-fits}
+use Rattle.tokens.specs.Line.{spaced}
+use Rattle.tokens.specs.Quote.{allPlain, quoteFor, quoteOf}
+use Rattle.names.specs.Elements.{symbolOf}
+use Rattle.names.specs.Packing.{unpacked}
+use Rattle.names.proofs.PackingTurns.{unpacked-short}
+use Rattle.model.specs.Lent.{Lent, residueIn, atomIn, modelIn}
+use Rattle.model.specs.Records.{ResidueRecord, AtomRecord, Model}
+use Rattle.model.specs.Termini.{isPolymer}
+use Rattle.model.specs.WellFormed.{wellFormedIn}
+use Rattle.texts.specs.Fields.{decimalOf, sequenceText, nameText, symbolText, codeText, groupText, numberText, coordinateText}
+use Rattle.texts.specs.Rows.{atomFields, polymerFields, atomText, polymerText}
+use Rattle.texts.specs.declared.loop_rows.AtomRow.{AtomRow}
+use Rattle.texts.specs.declared.loop_rows.PolymerRow.{PolymerRow}
+use Rattle.writer.specs.Text as text
+use Rattle.writer.specs.Text.{linesText, opening, closing, polymerHeaders, atomHeaders, atomRowOf, polymerRowOf, atomRows, polymerRows, polymerList}
+use Rattle.writer.proofs.ListsByIndex.{from-length}
+use Rattle.writer.proofs.WellFormedParts.{few-residues, few-atoms}
+
+-- ---- fields
+abbrev Short : List ℕ → Type 0
+Short field = length field ≤ 25
+
+module _ (a b : List ℕ) where
+  either-short : (t : Bool) → Short a → Short b → Short (cond t a b)
+  either-short true p q = p
+  either-short false p q = q
+
+decimal-fits : (n : ℕ) → length (decimalOf n) ≤ 20
+decimal-fits n = omega (arith, digits-length (digitCount n) n, digit-count-fits n)
+
+decimal-short : (n : ℕ) → Short (decimalOf n)
+decimal-short n = omega (arith, decimal-fits n)
+
+sequence-short : (s : ℕ) → Short (sequenceText s)
+unfolding sequenceText
+sequence-short s =
+    either-short (byte "-" ∷ decimalOf (2 ^ 31 - s)) (decimalOf (s - 2 ^ 31)) (ltb s (2 ^ 31))
+    (omega (arith, decimal-fits (2 ^ 31 - s)))
+    (decimal-short (s - 2 ^ 31))
+
+quote-short : (name : List ℕ) → length name ≤ 8 → Short (quoteOf name)
+unfolding quoteOf
+quote-short [] h = omega arith
+quote-short (b ∷ s) h =
+    let q = quoteFor (b ∷ s) in
+    either-short (b ∷ s) (q ∷ ((b ∷ s) ++ q ∷ [])) (allPlain (b ∷ s)) (omega arith) (omega (arith, length-append (b ∷ s) (q ∷ [])))
+
+name-short : (name : ℕ) → Short (nameText name)
+name-short name = quote-short (unpacked name) (unpacked-short 8 name)
+
+symbol-short : (element : ℕ) → Short (symbolText element)
+symbol-short element = omega (arith, unpacked-short 8 (symbolOf element))
+
+code-short : (code : ℕ) → Short (codeText code)
+unfolding codeText
+code-short code = either-short (bytes "?") (code ∷ []) (eqb code 0) (omega arith) (omega arith)
+
+group-short : (polymer : Bool) → Short (groupText polymer)
+unfolding groupText
+group-short polymer = either-short (bytes "ATOM") (bytes "HETATM") polymer (omega arith) (omega arith)
+
+number-short : (polymer : Bool) (number : ℕ) → Short (numberText polymer number)
+unfolding numberText
+number-short polymer number = either-short (decimalOf number) (bytes ".") polymer (decimal-short number) (omega arith)
+
+coordinate-short : (x : Float) → Short (coordinateText x)
+unfolding textOf fixedText
+coordinate-short x =
+    let n = unitsOf 3 x in
+    let whole = lastDigits (digitCount (n / 10 ^ 3)) (n / 10 ^ 3) in
+    omega (arith, length-append (sign (isNegative x)) (whole ++ (byte "." ∷ lastDigits 3 n)), length-append whole (byte "." ∷ lastDigits 3 n), sign-fits (isNegative x), digits-length (digitCount (n / 10 ^ 3)) (n / 10 ^ 3), digit-count-fits (n / 10 ^ 3), digits-length 3 n)
+
+-- those that are always the same
+alternate-short : Short (bytes ".")
+alternate-short = omega arith
+
+occupancy-short : Short (bytes "1.00")
+occupancy-short = omega arith
+
+b-short : Short (bytes "0.00")
+b-short = omega arith
+
+hetero-short : Short (bytes "n")
+hetero-short = omega arith
+
+-- ---- rows
+data AllShort : List (List ℕ) → Type 0 where
+  none : AllShort []
+  _also_ : {field : List ℕ} {fields : List (List ℕ)} → Short field → AllShort fields → AllShort (field ∷ fields)
+
+infixr 20 _also_
+spaced-short : (fields : List (List ℕ)) → AllShort fields → length (spaced fields) ≤ 26 * length fields
+unfolding spaced
+spaced-short [] none = omega arith
+spaced-short (field ∷ []) (s also none) = omega arith
+spaced-short (field ∷ next ∷ fields) (s also a) = omega (arith, length-append field (byte " " ∷ spaced (next ∷ fields)), spaced-short (next ∷ fields) a)
+
+atom-short : (row : AtomRow) → length (atomText row) ≤ 512
+unfolding atomText
+atom-short row = omega (arith, length-append (spaced (atomFields row)) (bytes "\n"), spaced-short (atomFields row) each)
+  where
+    each : AllShort (atomFields row)
+    each =
+        group-short (row .polymer)
+        also decimal-short (row .id)
+        also symbol-short (row .element)
+        also name-short (row .atom)
+        also alternate-short
+        also name-short (row .residue)
+        also name-short (row .chain)
+        also decimal-short (row .entity)
+        also number-short (row .polymer) (row .number)
+        also code-short (row .«insertion_code»)
+        also coordinate-short (row .position .x)
+        also coordinate-short (row .position .y)
+        also coordinate-short (row .position .z)
+        also occupancy-short
+        also b-short
+        also sequence-short (row .sequence)
+        also name-short (row .residue)
+        also name-short (row .chain)
+        also name-short (row .atom)
+        also none
+
+polymer-short : (row : PolymerRow) → length (polymerText row) ≤ 512
+unfolding polymerText
+polymer-short row =
+    omega (
+      arith,
+      length-append (spaced (polymerFields row)) (bytes "\n"),
+      spaced-short (polymerFields row) (decimal-short (row .entity) also decimal-short (row .number) also name-short (row .residue) also hetero-short also none),
+    )
+
+-- ---- the text
+module _ (m : Model) where
+  atoms-short : (id : ℕ) (l : List AtomRecord) → length (atomRows m id l) ≤ 512 * length l
+  unfolding atomRows
+  atoms-short id [] = omega arith
+  atoms-short id (a ∷ l) = omega (arith, length-append (atomText (atomRowOf m id a)) (atomRows m (suc id) l), atom-short (atomRowOf m id a), atoms-short (suc id) l)
+
+  polymers-short : (l : List ResidueRecord) → length (polymerRows m l) ≤ 512 * length l
+  unfolding polymerRows
+  polymers-short [] = omega arith
+  polymers-short (r ∷ l) = go (isPolymer (r .code)) (polymers-short l)
+    where
+      go : (b : Bool) → length (polymerRows m l) ≤ 512 * length l → length (cond b (polymerText (polymerRowOf m r)) [] ++ polymerRows m l) ≤ 512 * suc (length l)
+      go true h = omega (arith, length-append (polymerText (polymerRowOf m r)) (polymerRows m l), polymer-short (polymerRowOf m r))
+      go false h = omega arith
+
+list-short : (rows : List ℕ) → length (polymerList rows) ≤ 512 + length rows
+unfolding linesText
+list-short [] = omega arith
+list-short (b ∷ rows) = omega (arith, length-append (linesText polymerHeaders) ((b ∷ rows) ++ linesText closing), length-append (b ∷ rows) (linesText closing))
+
+loop-short : (rows : List ℕ) → length (text.atomLoop rows) ≤ 1024 + length rows
+unfolding linesText
+loop-short rows = omega (arith, length-append (linesText atomHeaders) (rows ++ linesText closing), length-append rows (linesText closing))
+
+pub text-short : (l : Lent) (chains residues atoms : ℕ) → wellFormedIn l chains residues atoms ≡ true → length (text.textOf (modelIn l chains residues atoms)) < 2 ^ 32
+unfolding text.textOf modelIn linesText
+text-short l chains residues atoms well =
+    let m = modelIn l chains residues atoms in
+    let polymers = polymerRows m (m .residues) in
+    let rows = atomRows m 1 (m .atoms) in
+    omega (
+      arith,
+      length-append (linesText opening) (polymerList polymers ++ text.atomLoop rows),
+      length-append (polymerList polymers) (text.atomLoop rows),
+      list-short polymers,
+      loop-short rows,
+      polymers-short m (m .residues),
+      atoms-short m 1 (m .atoms),
+      from-length (residueIn l) 0 residues,
+      from-length (atomIn l) 0 atoms,
+      few-residues l chains residues atoms well,
+      few-atoms l chains residues atoms well,
+    )

@@ -1,0 +1,83 @@
+-- Where a residue is of a polymer, headers, rows and `#` are put one after the other; else the list is empty.
+use mathlib.Core.Path.{_≡_, sym, ap, _∙_, subst}
+use mathlib.Core.List.{List, map}
+use Prim.Native.Nat.{ℕ}
+use borrow.Author.Tests.{not-true, not-false}
+use Rattle.model.specs.Lent.{listFrom}
+use Rattle.model.specs.Lists.{any}
+use Rattle.model.specs.Records.{ResidueRecord}
+use Rattle.model.specs.Termini.{isPolymer}
+use Rattle.texts.specs.Emitted.{Emitted}
+use Rattle.texts.proofs.EmittedLaws.{then}
+use Rattle.wellformed.proofs.SliceLaws.{map-from}
+use Rattle.writer.specs.Text.{linesText, polymerList}
+use Rattle.writer.specs.Walking.{residueFrom, polymersOf}
+use Rattle.writer.proofs.NothingEmitted.{nothing}
+use Rattle.writer.proofs.NumberWalk.{alone}
+use Rattle.writer.proofs.PolymerList.{rows-none, rows-some, list-some}
+use borrow.Author.Needs.{needs}
+use Rattle.writer.proofs.polymers.put_polymer_list.Statement.{statement}
+use Rattle.writer.proofs.polymers.put_polymer_list.Tie as tie
+
+-- the residues at entry
+abbrev residue : tie.Start → ℕ → ResidueRecord
+residue s = residueFrom (s .args .keys .now) (s .args .names .now) (s .args .codes .now) (s .args .categories .now) (s .args .positions .now)
+
+abbrev all : tie.Start → List ResidueRecord
+all s = listFrom (residue s) 0 (s .args .n)
+
+abbrev start : tie.After-has-polymers → tie.Start
+start p = p .before .before .before .before .before .before .before
+
+-- the test is of every residue
+tested : (p : tie.After-has-polymers) → p .has-polymers .result ≡ any isPolymer (map (λ r. r .code) (all (start p)))
+tested p = p .has-polymers .ensures ∙ ap (any isPolymer) (sym (map-from (λ r. r .code) (residue (start p)) 0 (start p .args .n)))
+
+has-polymers-requires : tie.Need-has-polymers-requires
+has-polymers-requires c κs = search needs
+
+returns : tie.Need-returns
+returns c =
+    let s = start (c .before) in
+    let none = rows-none (alone (residue s) (s .args .n)) (all s) (sym (tested (c .before)) ∙ not-true _ (c .if1 .taken)) in
+    subst (λ (t : List ℕ). Emitted (s .args .out .now) (s .args .at) t (s .args .at) (s .args .out .now)) (ap polymerList (sym none)) (nothing (s .args .out .now) (s .args .at))
+
+put-polymer-headers-requires : tie.Need-put-polymer-headers-requires
+put-polymer-headers-requires c κs = search needs
+
+put-polymer-rows-requires : tie.Need-put-polymer-rows-requires
+put-polymer-rows-requires c κs = search needs
+
+slice-aggregate-put-word : tie.Need-slice-aggregate-put-word
+slice-aggregate-put-word c = search needs
+
+put-word-requires : tie.Need-put-word-requires
+put-word-requires c κs = search needs
+
+same-length : tie.Need-same-length
+same-length c = search needs
+
+returns-2 : tie.Need-returns-2
+unfolding linesText
+returns-2 c =
+    let end = c .before .before in
+    let rows = end .before .before .before .before .before in
+    let headers = rows .before .before .before .before in
+    let p = headers .before .before .before in
+    let s = start p in
+    let some = rows-some (alone (residue s) (s .args .n)) (all s) (sym (tested p) ∙ not-false _ (headers .before .before .if1 .left)) in
+    subst (λ (t : List ℕ). Emitted (s .args .out .now) (s .args .at) t (end .put-word .result) (end .put-word .last .0)) (sym (list-some (polymersOf (all s)) some))
+    (then (headers .put-polymer-headers .ensures) (then (rows .put-polymer-rows .ensures) (λ _. end .put-word .ensures)) (s .good .0 .0))
+
+pub put-polymer-list-spec : {M : Type 1} → statement M
+put-polymer-list-spec =
+    tie.close
+    (tie.spec
+    has-polymers-requires
+    returns
+    put-polymer-headers-requires
+    put-polymer-rows-requires
+    slice-aggregate-put-word
+    put-word-requires
+    same-length
+    returns-2)

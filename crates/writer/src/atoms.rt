@@ -1,0 +1,136 @@
+// The atom loop: a row for each atom.
+use crate::chains::chain_name;
+use crate::headers::put_atom_headers;
+use crate::walking::Walk;
+use crate::walking::begin_walk;
+use crate::walking::walk_to;
+use model::Atom;
+use model::atom_at;
+use model::chain_part;
+use model::is_polymer;
+use texts::AtomRow;
+use texts::put_atom_row;
+use texts::put_word;
+ghost use mathlib.Core.Path.{_≡_};
+ghost use mathlib.Core.Bool.{true};
+ghost use Prim.Native.Nat.{_≤_};
+ghost use lib.ListN.{length, take};
+ghost use Rattle.model.specs.Lent.{lentOf, modelIn};
+ghost use Rattle.model.specs.WellFormed.{wellFormedIn};
+ghost use Rattle.texts.specs.Emitted.{Emitted};
+ghost use Rattle.writer.specs.Text.{atomLoop};
+ghost use Rattle.writer.specs.Walking.{rowBy, atomsOf};
+
+// The row of an atom in the residue where the walk stands.
+fn atom_row(chains: &[u64], chain_count: usize, id: u64, atom: Atom, walk: Walk) -> AtomRow
+    requires { ⌜ «chain_count» ≤ length (now chains) ⌝ }
+    ensures { λ r. ⌜ r ≡ rowBy (take «chain_count» (now (chains .entry))) id atom walk ⌝ }
+{
+    let key = atom.key;
+    let position = atom.position;
+    let residue = walk.residue;
+    AtomRow {
+        polymer: is_polymer(residue.code),
+        id,
+        element: atom.element,
+        atom: atom.name,
+        residue: residue.name,
+        chain: chain_name(chains, chain_count, key),
+        entity: chain_part(key) + 1,
+        number: walk.number,
+        insertion_code: (key % 256) as u8,
+        position,
+        sequence: (key % 1099511627776 / 256) as u32,
+    }
+}
+
+fn put_atom_rows(
+    out: &mut [u8],
+    at: usize,
+    chains: &[u64],
+    residue_keys: &[u64],
+    residue_names: &[u64],
+    residue_codes: &[u8],
+    residue_categories: &[u8],
+    residue_positions: &[u8],
+    atom_keys: &[u64],
+    atom_names: &[u64],
+    elements: &[u8],
+    positions: &[[f64; 3]],
+    occupancies: &[f64],
+    chain_count: usize,
+    residue_count: usize,
+    atom_count: usize,
+) -> usize
+    requires { ⌜ wellFormedIn (lentOf (now chains) (now «residue_keys») (now «residue_names») (now «residue_codes») (now «residue_categories») (now «residue_positions») (now «atom_keys») (now «atom_names») (now elements) (now positions) (now occupancies)) «chain_count» «residue_count» «atom_count» ≡ true ⌝ }
+    ensures { λ r. ⌜ Emitted (now (out .entry)) at (atomsOf (modelIn (lentOf (now (chains .entry)) (now («residue_keys» .entry)) (now («residue_names» .entry)) (now («residue_codes» .entry)) (now («residue_categories» .entry)) (now («residue_positions» .entry)) (now («atom_keys» .entry)) (now («atom_names» .entry)) (now (elements .entry)) (now (positions .entry)) (now (occupancies .entry))) «chain_count» «residue_count» «atom_count»)) r (now (out .exit)) ⌝ }
+{
+    let mut place = at;
+    let mut walk = begin_walk(
+        residue_keys,
+        residue_names,
+        residue_codes,
+        residue_categories,
+        residue_positions,
+    );
+    let mut i = 0;
+    while i < atom_count {
+        let atom = atom_at(atom_keys, atom_names, elements, positions, occupancies, i);
+        walk = walk_to(
+            residue_keys,
+            residue_names,
+            residue_codes,
+            residue_categories,
+            residue_positions,
+            walk,
+            atom.key,
+        );
+        i += 1;
+        let row = atom_row(chains, chain_count, i as u64, atom, walk);
+        place = put_atom_row(out, place, row);
+    }
+    place
+}
+
+pub(crate) fn put_atom_loop(
+    out: &mut [u8],
+    at: usize,
+    chains: &[u64],
+    residue_keys: &[u64],
+    residue_names: &[u64],
+    residue_codes: &[u8],
+    residue_categories: &[u8],
+    residue_positions: &[u8],
+    atom_keys: &[u64],
+    atom_names: &[u64],
+    elements: &[u8],
+    positions: &[[f64; 3]],
+    occupancies: &[f64],
+    chain_count: usize,
+    residue_count: usize,
+    atom_count: usize,
+) -> usize
+    requires { ⌜ wellFormedIn (lentOf (now chains) (now «residue_keys») (now «residue_names») (now «residue_codes») (now «residue_categories») (now «residue_positions») (now «atom_keys») (now «atom_names») (now elements) (now positions) (now occupancies)) «chain_count» «residue_count» «atom_count» ≡ true ⌝ }
+    ensures { λ r. ⌜ Emitted (now (out .entry)) at (atomLoop (atomsOf (modelIn (lentOf (now (chains .entry)) (now («residue_keys» .entry)) (now («residue_names» .entry)) (now («residue_codes» .entry)) (now («residue_categories» .entry)) (now («residue_positions» .entry)) (now («atom_keys» .entry)) (now («atom_names» .entry)) (now (elements .entry)) (now (positions .entry)) (now (occupancies .entry))) «chain_count» «residue_count» «atom_count»))) r (now (out .exit)) ⌝ }
+{
+    let at = put_atom_headers(out, at);
+    let at = put_atom_rows(
+        out,
+        at,
+        chains,
+        residue_keys,
+        residue_names,
+        residue_codes,
+        residue_categories,
+        residue_positions,
+        atom_keys,
+        atom_names,
+        elements,
+        positions,
+        occupancies,
+        chain_count,
+        residue_count,
+        atom_count,
+    );
+    put_word(out, at, b"#\n")
+}

@@ -1,0 +1,58 @@
+// The lines in front of the rows.
+use texts::put_word;
+ghost use Rattle.texts.specs.Emitted.{Emitted};
+ghost use Rattle.writer.specs.Text.{linesText, opening, polymerHeaders, atomHeaders};
+
+pub(crate) fn put_opening(out: &mut [u8], at: usize) -> usize
+    ensures { λ r. ⌜ Emitted (now (out .entry)) at (linesText opening) r (now (out .exit)) ⌝ }
+{
+    put_word(
+        out,
+        at,
+        b"data_bio_forge_export\n\
+        #\n",
+    )
+}
+
+pub(crate) fn put_polymer_headers(out: &mut [u8], at: usize) -> usize
+    ensures { λ r. ⌜ Emitted (now (out .entry)) at (linesText polymerHeaders) r (now (out .exit)) ⌝ }
+{
+    put_word(
+        out,
+        at,
+        b"loop_\n\
+        _entity_poly_seq.entity_id\n\
+        _entity_poly_seq.num\n\
+        _entity_poly_seq.mon_id\n\
+        _entity_poly_seq.hetero\n",
+    )
+}
+
+pub(crate) fn put_atom_headers(out: &mut [u8], at: usize) -> usize
+    ensures { λ r. ⌜ Emitted (now (out .entry)) at (linesText atomHeaders) r (now (out .exit)) ⌝ }
+{
+    put_word(
+        out,
+        at,
+        b"loop_\n\
+        _atom_site.group_PDB\n\
+        _atom_site.id\n\
+        _atom_site.type_symbol\n\
+        _atom_site.label_atom_id\n\
+        _atom_site.label_alt_id\n\
+        _atom_site.label_comp_id\n\
+        _atom_site.label_asym_id\n\
+        _atom_site.label_entity_id\n\
+        _atom_site.label_seq_id\n\
+        _atom_site.pdbx_PDB_ins_code\n\
+        _atom_site.Cartn_x\n\
+        _atom_site.Cartn_y\n\
+        _atom_site.Cartn_z\n\
+        _atom_site.occupancy\n\
+        _atom_site.B_iso_or_equiv\n\
+        _atom_site.auth_seq_id\n\
+        _atom_site.auth_comp_id\n\
+        _atom_site.auth_asym_id\n\
+        _atom_site.auth_atom_id\n",
+    )
+}

@@ -1,0 +1,21 @@
+//! Links libservice.a, the proved library, from the folder that PROVED_LIB names; without it, from
+//! build/lib at the top of the repository.
+use std::env;
+use std::path::{Path, PathBuf};
+
+fn main() {
+    println!("cargo::rerun-if-env-changed=PROVED_LIB");
+    let in_the_repository = Path::new(env!("CARGO_MANIFEST_DIR")).join("../build/lib");
+    let folder = env::var_os("PROVED_LIB").map_or(in_the_repository, PathBuf::from);
+    let library = folder.join("libservice.a");
+    println!("cargo::rerun-if-changed={}", library.display());
+    if library.is_file() {
+        println!("cargo::rustc-link-search=native={}", folder.display());
+        println!("cargo::rustc-link-lib=static=service");
+    } else {
+        println!(
+            "cargo::error=There is no file {}: make it with `tools/staticlib service build/lib`, or set PROVED_LIB to the full path of its folder.",
+            library.display()
+        );
+    }
+}
