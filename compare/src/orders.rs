@@ -37,7 +37,7 @@ pub fn reordered(random: &mut Random, text: &[u8]) -> Option<Text> {
     reordered.extend(&lines[rows.end..]);
     let endings = ["\n", "\n", "\n", "\r\n"];
     let ended = reordered
-        .iter()
+        .into_iter()
         .flat_map(|line| [line, random.pick(&endings)]);
     Some(ended.collect::<String>().into_bytes())
 }

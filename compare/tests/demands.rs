@@ -14,8 +14,9 @@ const AMPLE: Room = Room {
     residues: 120,
     atoms: 200,
 };
-/// How many small texts are reordered; with the files' that is more than 20,000 cases of each kind.
-const SMALL: usize = 40_000;
+/// How many small texts are taken, of which enough are read and can be written.
+const SMALL: usize = 60_000;
+/// The fewest cases of each kind.
 const CASES: usize = 20_000;
 /// How often each file of the corpus is reordered.
 const TIMES: usize = 10;
@@ -155,5 +156,6 @@ fn what_is_written_is_read_again() {
         let what = format!("file {place}");
         compare_trip(&mut tally, &what, file.as_bytes(), &mut records, &mut out);
     }
+    assert!(tally.compared() >= CASES, "only {} cases", tally.compared());
     tally.finish("texts written and read again");
 }

@@ -69,6 +69,7 @@ fn small_texts_are_written_alike() {
             &format!("text {number}"),
             &cifs::text(number),
             &mut records,
+            AMPLE,
         );
     }
     tally.finish("writings of small texts");
@@ -84,6 +85,7 @@ fn files_are_written_alike() {
             &format!("file {place}"),
             file.as_bytes(),
             &mut records,
+            Room::GREATEST,
         );
     }
     tally.finish("writings of files");
@@ -95,7 +97,7 @@ type Damage = (&'static str, fn(&mut Records, &mut Room));
 const DAMAGES: [Damage; 16] = [
     ("a chain too many", |_, model| model.chains += 1),
     ("a residue too few", |_, model| model.residues -= 1),
-    ("an atom too few", |_, model| model.atoms -= 1),
+    ("no atom", |_, model| model.atoms = 0),
     ("counts past the records", |records, model| {
         model.atoms = records.atom_keys.slice().len() + 1;
     }),
