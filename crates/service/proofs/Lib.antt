@@ -1,5 +1,7 @@
+pub mod BytesTell
 pub mod CallLaws
 pub mod CountsAreSmall
+pub mod NeverTwelve
 pub mod NumbersFit
 pub mod OwnRoom
 pub mod RefusalsAreSmall

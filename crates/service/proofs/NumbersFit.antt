@@ -1,37 +1,34 @@
--- The seven numbers are below 2 ^ 32, so that the four bytes of each tell it whole; and refusal 12 is never given, since what is read is well formed.
+-- The seven numbers are below 2 ^ 32, so that the four bytes of each tell it whole: lines and rows by the length of the text that was read, what is written by the
+-- length of the longest text.
 use Prim.{tt}
-use mathlib.Core.Path.{_≡_, refl, sym, ap, _∙_, subst}
+use mathlib.Core.Path.{_≡_, refl, subst}
 use mathlib.Core.Bool.{Bool, true, false, cond}
 use mathlib.Core.List.{List, [], _∷_}
-use Prim.Native.Nat.{ℕ, zero, suc, _+_, _*_, _/_, _%_, _^_, _≤_, _<_}
-use native.Mathlib.Nat.{div-div-eq-div-mul}
+use Prim.Native.Nat.{ℕ, zero, suc, _+_, _^_, _≤_, _<_}
 use native.Mathlib.Omega.{arith}
 use lib.Dec.{leb}
-use lib.ListN.{length}
+use lib.ListN.{length, replicate, length-replicate}
+use Rattle.records.specs.Clearing.{zeroFloat, zeroPoint}
 use Rattle.building.specs.declared.sites.Counts.{Counts}
-use Rattle.model.specs.Lent.{Lent, roomOf, holding}
+use Rattle.model.specs.Lent.{Lent, lentOf, roomOf, holding}
 use Rattle.model.specs.Lists.{All}
 use Rattle.model.specs.Records.{AtomRecord, Model}
 use Rattle.model.specs.declared.room.Room.{Room}
 use Rattle.model.proofs.HeldModelIsRead.{held-model-is-read}
-use Rattle.rows.specs.Refusals as row-numbers
-use Rattle.rows.specs.declared.rules.Refusal as row
-use Rattle.rows.specs.declared.rules.Refusal.the-variants.{ColumnMissing, RowShort, OutsideGrammar, BeyondReach, NameTooLong}
 use Rattle.reader.specs.Reading as reader
 use Rattle.reader.specs.Reading.{Reading, read, readOf}
 use Rattle.reader.proofs.SlicesOfOneSize.{room-within}
-use Rattle.taking.specs.Refusals as unread
-use Rattle.taking.specs.declared.refusals.Refusal.{Refusal}
-use Rattle.taking.specs.declared.refusals.Refusal.the-variants.{TextTooLong, OutsideDomain, LineTooLong, TooManyHeaders, RowRefused, NoRoom, UnknownResidue}
 use Rattle.writer.specs.Text.{textOf}
 use Rattle.writer.specs.Unwritable.{isUnwritable, firstUnwritable, unwritableIn}
 use Rattle.writer.specs.Writing as writer
-use Rattle.writer.specs.Writing.{Writing, written, writtenBut, writingOf}
-use Rattle.writer.specs.declared.refusals.Refusal.the-variants.{Unwritable, OutputTooShort}
+use Rattle.writer.specs.Writing.{written, writtenBut}
+use Rattle.writer.specs.declared.refusals.Refusal.the-variants.{OutputTooShort}
 use Rattle.writer.proofs.TextIsShort.{text-short}
-use Rattle.service.specs.Results.{statusIn, numbersIn, littleEndian, bytesOf}
-use Rattle.service.specs.Serving.{byWriting, byReading, serveOf, answerOf}
+use Rattle.service.specs.Results.{numbersIn, bytesOf}
+use Rattle.service.specs.Serving.{byWriting, byReading, ownRoom, serveOf, answerOf}
+use Rattle.service.proofs.BytesTell.{numbersTold, bytes-tell}
 use Rattle.service.proofs.CountsAreSmall.{counts-are-small}
+use Rattle.service.proofs.OwnRoom.{own-room}
 use Rattle.service.proofs.RefusalsAreSmall.{refusals-are-small}
 use Rattle.service.proofs.WrittenAsRead.{within, well-held}
 
@@ -80,66 +77,32 @@ module _ (l : Lent) (size : ℕ) (text : List ℕ) where
           let (line, detail) = refusals-are-small l text bytes why e in
           (line, (detail, (omega arith, (omega arith, (omega arith, (omega arith, (omega arith, tt)))))))
 
--- ---- what the bytes tell
--- the number of each four bytes, the lowest first
-abbrev pub numbersTold : List ℕ → List ℕ
-numbersTold [] = []
-numbersTold (a ∷ []) = []
-numbersTold (a ∷ b ∷ []) = []
-numbersTold (a ∷ b ∷ c ∷ []) = []
-numbersTold (a ∷ b ∷ c ∷ d ∷ s) = (a + 256 * b + 65536 * c + 16777216 * d) ∷ numbersTold s
+  -- so that the result tells them
+  pub result-tells : All (λ b. b < 256) text → let numbers = numbersIn (answerOf (serveOf (roomOf l) size text)) in numbersTold (bytesOf numbers) ≡ numbers
+  result-tells bytes = bytes-tell (numbersIn (answerOf (serveOf (roomOf l) size text))) (numbers-fit bytes)
 
-lowest : (n : ℕ) → n % 256 + 256 * (n / 256) ≡ n
-lowest n = omega arith
+-- ---- and with records of its own
+abbrev zeros : ℕ → List ℕ
+zeros n = replicate n 0
 
-highest : (n : ℕ) → n < 256 → n % 256 ≡ n
-highest n h = omega arith
+many-zeros : (n : ℕ) → length (zeros n) ≡ n
+many-zeros n = length-replicate n 0
 
-joined : (n a p b q c r d : ℕ) → a + 256 * p ≡ n → b + 256 * q ≡ p → c + 256 * r ≡ q → d ≡ r → a + 256 * b + 65536 * c + 16777216 * d ≡ n
-joined n a p b q c r d e f g h = omega arith
+abbrev ownRecords : Lent
+ownRecords =
+    let residues = zeros 512 in
+    let atoms = zeros 1024 in
+    lentOf (zeros 64) residues residues residues residues residues atoms atoms atoms (replicate 1024 zeroPoint) (replicate 1024 zeroFloat)
 
-told : (n : ℕ) → n < 2 ^ 32 → n % 256 + 256 * (n / 2 ^ 8 % 256) + 65536 * (n / 2 ^ 16 % 256) + 16777216 * (n / 2 ^ 24 % 256) ≡ n
-told n h =
-    joined n (n % 256) (n / 256) (n / 256 % 256) (n / 65536) (n / 65536 % 256) (n / 16777216) (n / 16777216 % 256)
-    (lowest n)
-    (subst (λ (q : ℕ). n / 256 % 256 + 256 * q ≡ n / 256) (div-div-eq-div-mul n 256 256) (lowest (n / 256)))
-    (subst (λ (q : ℕ). n / 65536 % 256 + 256 * q ≡ n / 65536) (div-div-eq-div-mul n 65536 256) (lowest (n / 65536)))
-    (highest (n / 16777216) (omega arith))
+own-records-room : roomOf ownRecords ≡ ownRoom
+own-records-room =
+    let residues = many-zeros 512 in
+    let atoms = many-zeros 1024 in
+    own-room ownRecords (many-zeros 64) residues residues residues residues residues atoms atoms atoms (length-replicate 1024 zeroPoint) (length-replicate 1024 zeroFloat)
 
-pub bytes-tell : (numbers : List ℕ) → All (λ n. n < 2 ^ 32) numbers → numbersTold (bytesOf numbers) ≡ numbers
-unfolding bytesOf
-bytes-tell [] h = refl
-bytes-tell (n ∷ numbers) h = λ i. told n (h .0) i ∷ bytes-tell numbers (h .1) i
+module _ (size : ℕ) (text : List ℕ) (bytes : All (λ b. b < 256) text) where
+  pub own-numbers-fit : All (λ n. n < 2 ^ 32) (numbersIn (answerOf (serveOf ownRoom size text)))
+  own-numbers-fit = subst (λ (r : Room). All (λ n. n < 2 ^ 32) (numbersIn (answerOf (serveOf r size text)))) own-records-room (numbers-fit ownRecords size text bytes)
 
--- ---- never 12
-row-number : (why : row.Refusal) → row-numbers.numberOf why ≤ 9
-row-number (ColumnMissing k) = omega arith
-row-number RowShort = omega arith
-row-number (OutsideGrammar axis) = omega arith
-row-number (BeyondReach k) = omega arith
-row-number (NameTooLong k) = omega arith
-
-unread-number : (why : Refusal) → unread.numberOf why ≤ 11
-unread-number TextTooLong = omega arith
-unread-number (OutsideDomain line byte) = omega arith
-unread-number (LineTooLong line) = omega arith
-unread-number (TooManyHeaders line) = omega arith
-unread-number (RowRefused line why) = omega (arith, row-number why)
-unread-number (NoRoom line lack) = omega arith
-unread-number (UnknownResidue place) = omega arith
-
-pub never-12 : (room : Room) (size : ℕ) (text : List ℕ) → statusIn (answerOf (serveOf room size text)) ≡ 12 → ⊥
-unfolding serveOf
-never-12 room size text = go (readOf room text)
-  where
-    by-size : (m : Model) (counts : Counts) (t : Bool) → statusIn (answerOf (byWriting m counts (cond t (written (textOf m)) (writer.refused (OutputTooShort (length (textOf m))))))) ≡ 12 → ⊥
-    by-size m counts true e = omega arith
-    by-size m counts false e = omega arith
-
-    by-atom : (m : Model) (counts : Counts) (id : ℕ) → statusIn (answerOf (byWriting m counts (writtenBut id size m))) ≡ 12 → ⊥
-    by-atom m counts zero e = by-size m counts (leb (length (textOf m)) size) e
-    by-atom m counts (suc id) e = omega arith
-
-    go : (r : Reading) → statusIn (answerOf (byReading size r)) ≡ 12 → ⊥
-    go (read m counts) e = by-atom m counts (unwritableIn m) e
-    go (reader.refused why) e = omega (arith, unread-number why)
+  pub own-result-tells : let numbers = numbersIn (answerOf (serveOf ownRoom size text)) in numbersTold (bytesOf numbers) ≡ numbers
+  own-result-tells = bytes-tell (numbersIn (answerOf (serveOf ownRoom size text))) own-numbers-fit

@@ -8,20 +8,20 @@ use Rattle.model.specs.declared.room.Room.{Room}
 use Rattle.service.specs.Serving.{ownRoom, serveOf, answerOf, writtenTo, Serves, ServesOwn}
 use Rattle.service.specs.declared.answers.Answer.{Answer}
 
-module _ {l after : Lent} {text out : List ℕ} {answer : Answer} {bytes : List ℕ} where
-  pub own-served : Serves l text out answer after bytes
-      → length (l .chains) ≡ 64
-      → length (l .residueKeys) ≡ 512 → length (l .residueNames) ≡ 512 → length (l .residueCodes) ≡ 512 → length (l .residueCategories) ≡ 512 → length (l .residuePositions) ≡ 512
-      → length (l .atomKeys) ≡ 1024 → length (l .atomNames) ≡ 1024 → length (l .elements) ≡ 1024 → length (l .positions) ≡ 1024 → length (l .occupancies) ≡ 1024
-      → ServesOwn text out answer bytes
-  unfolding roomOf
-  own-served s chains keys names codes categories places atoms atomNames elements positions occupancies =
-      let room : roomOf l ≡ ownRoom = λ i. record {
-        chains = min 4096 (chains i);
-        residues = min 65536 (min (keys i) (min (names i) (min (codes i) (min (categories i) (places i)))));
-        atoms = min 1048576 (min (atoms i) (min (atomNames i) (min (elements i) (min (positions i) (occupancies i)))));
-      } in
-      record {
-        answered = s .answered ∙ ap (λ (r : Room). answerOf (serveOf r (length out) text)) room;
-        written = s .written ∙ ap (λ (r : Room). writtenTo out (serveOf r (length out) text)) room;
-      }
+pub own-room : (l : Lent)
+    → length (l .chains) ≡ 64
+    → length (l .residueKeys) ≡ 512 → length (l .residueNames) ≡ 512 → length (l .residueCodes) ≡ 512 → length (l .residueCategories) ≡ 512 → length (l .residuePositions) ≡ 512
+    → length (l .atomKeys) ≡ 1024 → length (l .atomNames) ≡ 1024 → length (l .elements) ≡ 1024 → length (l .positions) ≡ 1024 → length (l .occupancies) ≡ 1024
+    → roomOf l ≡ ownRoom
+unfolding roomOf
+own-room l chains keys names codes categories places atoms atomNames elements positions occupancies = λ i. record {
+  chains = min 4096 (chains i);
+  residues = min 65536 (min (keys i) (min (names i) (min (codes i) (min (categories i) (places i)))));
+  atoms = min 1048576 (min (atoms i) (min (atomNames i) (min (elements i) (min (positions i) (occupancies i)))));
+}
+
+pub own-served : (l : Lent) {after : Lent} {text out : List ℕ} {answer : Answer} {bytes : List ℕ} → roomOf l ≡ ownRoom → Serves l text out answer after bytes → ServesOwn text out answer bytes
+own-served l {after} {text} {out} room s = record {
+  answered = s .answered ∙ ap (λ (r : Room). answerOf (serveOf r (length out) text)) room;
+  written = s .written ∙ ap (λ (r : Room). writtenTo out (serveOf r (length out) text)) room;
+}

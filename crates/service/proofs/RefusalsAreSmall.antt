@@ -1,8 +1,8 @@
 -- Line and detail of a refusal of the reading are below 2 ^ 32: a text that is refused at a line has at most 16,777,216 bytes, and so no more lines; a row has
 -- few columns, a byte is below 256, and there is room for at most 65,536 residues.
-use mathlib.Core.Path.{_≡_, refl, sym, ap, _∙_, subst}
+use mathlib.Core.Path.{_≡_, refl, ap, _∙_, subst}
 use mathlib.Core.Bool.{Bool, true, false, _||_, cond}
-use mathlib.Core.List.{List, [], _∷_, _++_}
+use mathlib.Core.List.{List, [], _∷_}
 use Prim.Native.Nat.{ℕ, zero, suc, _+_, _^_, _≤_, _<_}
 use native.Mathlib.Omega.{arith}
 use lib.Dec.{eqb, leb}

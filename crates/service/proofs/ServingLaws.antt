@@ -16,7 +16,7 @@ use Rattle.writer.specs.Writing.{Writing, written, writingOf, writeOf, Wrote}
 use Rattle.writer.specs.declared.answers.Answer as writer-answer
 use Rattle.writer.specs.declared.answers.Answer.the-variants as written-answer
 use Rattle.writer.specs.declared.refusals.Refusal as unwritten
-use Rattle.service.specs.Serving.{Serving, served, refused, byWriting, byReading, serveOf, answerOf, leftIn, writtenTo, Serves, writtenAnswer, leftWritten, WritesOut}
+use Rattle.service.specs.Serving.{byWriting, byReading, serveOf, answerOf, leftIn, writtenTo, Serves, writtenAnswer, leftWritten, WritesOut}
 use Rattle.service.specs.declared.answers.Answer.{Answer}
 use Rattle.service.specs.declared.refusals.Refusal.the-variants.{Unread, Unwritten}
 use Rattle.service.proofs.WrittenAsRead.{written-as-read}

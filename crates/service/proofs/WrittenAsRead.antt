@@ -1,6 +1,6 @@
 -- What is read is written: it is well formed, and the records that had the room for it hold it, so that the writer finds it there and never refuses it by 12.
 use mathlib.Core.Path.{_≡_, sym, ap, _∙_}
-use mathlib.Core.Bool.{Bool, true, _&&_}
+use mathlib.Core.Bool.{true, _&&_}
 use mathlib.Core.List.{List, map}
 use Prim.Native.Nat.{ℕ, _≤_}
 use native.Mathlib.Omega.{arith}
@@ -8,7 +8,7 @@ use lib.Dec.{leb}
 use lib.ListN.{length, length-map}
 use borrow.Author.Tests.{le-leb}
 use Rattle.building.specs.declared.sites.Counts.{Counts}
-use Rattle.model.specs.Finished.{atomRecord, classified, positioned, modelFrom}
+use Rattle.model.specs.Finished.{atomRecord, classified, positioned}
 use Rattle.model.specs.Lent.{Lent, roomOf, holding}
 use Rattle.model.specs.Records.{Model}
 use Rattle.model.specs.WellFormed.{countsFit, wellFormedIn}

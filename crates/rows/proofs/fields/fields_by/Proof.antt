@@ -1,11 +1,7 @@
 -- The cell and the places are long enough, so that the tokens stand in the cell.
-use mathlib.Core.Path.{_≡_, _∙_}
-use mathlib.Core.List.{List}
-use Prim.Native.Nat.{ℕ}
 use native.Mathlib.Omega.{arith}
 use borrow.Author.Needs.{needs}
 use Rattle.tokens.proofs.TokensStandInTheCell.{token-stands}
-use Rattle.rows.specs.Fields.{InCell}
 use Rattle.rows.proofs.fields.fields_by.Statement.{statement}
 use Rattle.rows.proofs.fields.fields_by.Tie as tie
 

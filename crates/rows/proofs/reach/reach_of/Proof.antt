@@ -1,6 +1,5 @@
 -- A missing column goes first; then the furthest column tells whether the row is short.
-use mathlib.Core.Path.{_≡_, sym, _∙_}
-use Prim.Native.Nat.{_≤_, _<_}
+use mathlib.Core.Path.{sym, _∙_}
 use borrow.Author.Needs.{needs}
 use Rattle.rows.proofs.ReachLaws.{column-missing, row-short, row-whole}
 use Rattle.rows.proofs.reach.reach_of.Statement.{statement}

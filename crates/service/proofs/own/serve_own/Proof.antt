@@ -1,6 +1,6 @@
 -- The records have the sizes that document 01 gives, and the service in them is the one in that room.
 use mathlib.Core.Path.{refl}
-use Rattle.service.proofs.OwnRoom.{own-served}
+use Rattle.service.proofs.OwnRoom.{own-room, own-served}
 use borrow.Author.Needs.{needs}
 use Rattle.service.proofs.own.serve_own.Statement.{statement}
 use Rattle.service.proofs.own.serve_own.Tie as tie
@@ -45,7 +45,7 @@ same-length : tie.Need-same-length
 same-length c = c .before .before .before .before .before .before .before .before .before .before .before .before .out .given
 
 returns : tie.Need-returns
-returns c = own-served (c .before .before .before .before .before .before .before .before .before .before .before .before .before .serve .ensures) refl refl refl refl refl refl refl refl refl refl refl
+returns c = own-served _ (own-room _ refl refl refl refl refl refl refl refl refl refl refl) (c .before .before .before .before .before .before .before .before .before .before .before .before .before .serve .ensures)
 
 pub serve-own-spec : {M : Type 1} → statement M
 serve-own-spec =

@@ -1,6 +1,5 @@
 -- The code tests what the promise tests; a token that is not empty has a byte, so that the count has room for it.
 use mathlib.Core.Path.{refl}
-use native.Mathlib.Omega.{arith}
 use borrow.Author.Needs.{needs}
 use borrow.Author.Tests.{eq-eqb, ne-eqb}
 use Rattle.tokens.specs.Splitting.{splitEnded, placesEnded}
