@@ -11,5 +11,4 @@ pub mod RunWalk
 pub mod TextIsShort
 pub mod Unwritten
 pub mod WellFormedParts
-pub mod WorkedWriting
 pub mod WritingLaws
