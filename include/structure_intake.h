@@ -82,7 +82,12 @@ uint32_t structure_intake(const uint8_t *text, size_t text_length,
                           uint8_t *out, size_t out_length,
                           uint8_t *result, size_t result_length);
 
-/* The same with the caller's records, one slice to a field. There is room for as many chains, residues and atoms as the
+/* A record of the chain list. */
+struct structure_intake_chain {
+    uint64_t name;
+};
+
+/* The same with the caller's records: the chain list a slice of chain records, all other records one slice to a field. There is room for as many chains, residues and atoms as the
  * shortest slice of each kind has entries, and for at most 4,096, 65,536 and 1,048,576 of them. What the slices hold
  * beforehand does not matter.
  *
@@ -92,7 +97,7 @@ uint32_t structure_intake(const uint8_t *text, size_t text_length,
  * a refusal every record is zero. After 26 the records too are as they were.
  *
  *  slice               entry       holds
- *  chains              uint64_t    the chain's name, packed
+ *  chains              a chain     its name, packed
  *  residue_keys        uint64_t    chain's place from 0 * 2^40 + (sequence + 2^31) * 2^8 + insertion code, 0 for none
  *  residue_names       uint64_t    the residue's name, packed: the canonical one for a standard residue
  *  residue_codes       uint8_t     the standard residue, 0 for none, from 1 on: ALA ARG ASN ASP CYS GLN GLU GLY HIS ILE
@@ -109,7 +114,7 @@ uint32_t structure_intake(const uint8_t *text, size_t text_length,
 uint32_t structure_intake_lent(const uint8_t *text, size_t text_length,
                                uint8_t *out, size_t out_length,
                                uint8_t *result, size_t result_length,
-                               uint64_t *chains, size_t chains_length,
+                               struct structure_intake_chain *chains, size_t chains_length,
                                uint64_t *residue_keys, size_t residue_keys_length,
                                uint64_t *residue_names, size_t residue_names_length,
                                uint8_t *residue_codes, size_t residue_codes_length,

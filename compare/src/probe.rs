@@ -1,7 +1,7 @@
 //! The proved functions of the archives, called through C conventions: a slice is a pointer and a
 //! length.
 use crate::outcomes::Outcome;
-use crate::records::{Records, Room};
+use crate::records::{Chain, Records, Room};
 use std::fmt;
 
 unsafe extern "C" {
@@ -35,9 +35,11 @@ unsafe extern "C" {
     fn probe_element(symbol: *const u8, length: usize) -> u8;
     fn probe_symbol(element: u8) -> u64;
     fn probe_read(
+        numbers: *mut u64,
+        numbers_length: usize,
         text: *const u8,
         length: usize,
-        chains: *mut u64,
+        chains: *mut Chain,
         chains_length: usize,
         residue_keys: *mut u64,
         residue_keys_length: usize,
@@ -59,11 +61,11 @@ unsafe extern "C" {
         positions_length: usize,
         occupancies: *mut f64,
         occupancies_length: usize,
-        numbers: *mut u64,
-        numbers_length: usize,
     );
     fn probe_write(
-        chains: *const u64,
+        numbers: *mut u64,
+        numbers_length: usize,
+        chains: *const Chain,
         chains_length: usize,
         residue_keys: *const u64,
         residue_keys_length: usize,
@@ -90,8 +92,6 @@ unsafe extern "C" {
         atom_count: usize,
         out: *mut u8,
         out_length: usize,
-        numbers: *mut u64,
-        numbers_length: usize,
     );
 }
 
@@ -235,6 +235,8 @@ pub fn read(text: &[u8], records: &mut Records) -> Outcome {
     // which are all distinct.
     unsafe {
         probe_read(
+            numbers.as_mut_ptr(),
+            numbers.len(),
             text.as_ptr(),
             text.len(),
             chains.as_mut_ptr(),
@@ -259,8 +261,6 @@ pub fn read(text: &[u8], records: &mut Records) -> Outcome {
             positions.len(),
             occupancies.as_mut_ptr(),
             occupancies.len(),
-            numbers.as_mut_ptr(),
-            numbers.len(),
         );
     }
     Outcome::of_numbers(numbers)
@@ -293,6 +293,8 @@ pub fn write(records: &mut Records, model: Room, out: &mut [u8]) -> Writing {
     // from them.
     unsafe {
         probe_write(
+            numbers.as_mut_ptr(),
+            numbers.len(),
             chains.as_ptr(),
             chains.len(),
             residue_keys.as_ptr(),
@@ -320,8 +322,6 @@ pub fn write(records: &mut Records, model: Room, out: &mut [u8]) -> Writing {
             model.atoms,
             out.as_mut_ptr(),
             out.len(),
-            numbers.as_mut_ptr(),
-            numbers.len(),
         );
     }
     match numbers {

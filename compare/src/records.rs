@@ -1,5 +1,6 @@
-//! The records that are lent to a reading, one slice to a field. They are dirty beforehand, and a
-//! few entries behind each slice are watched, which no reading has any business with.
+//! The records that are lent to a reading: a slice of chain records, and for residues and atoms one
+//! slice to a field. They are dirty beforehand, and a few entries behind each slice are watched,
+//! which no reading has any business with.
 use crate::outcomes::{Counts, Outcome};
 
 /// How many records there are of each kind.
@@ -40,11 +41,28 @@ impl Room {
     }
 }
 
+/// A record of the chain list.
+#[derive(Debug, Clone, Copy)]
+#[repr(C)]
+pub struct Chain {
+    pub name: u64,
+}
+
 /// What one slice holds for each record.
 pub trait Entry: Copy {
     fn of_word(word: u64) -> Self;
     /// All bits, so that -0.0 is not 0.0.
     fn words(self) -> [u64; 3];
+}
+
+impl Entry for Chain {
+    fn of_word(word: u64) -> Self {
+        Self { name: word }
+    }
+
+    fn words(self) -> [u64; 3] {
+        self.name.words()
+    }
 }
 
 impl Entry for u8 {
@@ -193,7 +211,7 @@ impl Field {
 }
 
 pub struct Records {
-    pub chains: Lent<u64>,
+    pub chains: Lent<Chain>,
     pub residue_keys: Lent<u64>,
     pub residue_names: Lent<u64>,
     pub residue_codes: Lent<u8>,

@@ -81,7 +81,7 @@ impl Model {
             position: records.positions.filled(counts.atoms)[place].map(f64::to_bits),
         };
         Self {
-            chains: chains.map(|&name| unpacked(name)).collect(),
+            chains: chains.map(|chain| unpacked(chain.name)).collect(),
             residues: (0..counts.residues as usize).map(residue).collect(),
             atoms: (0..counts.atoms as usize).map(atom).collect(),
         }

@@ -102,10 +102,10 @@ const DAMAGES: [Damage; 16] = [
         model.atoms = records.atom_keys.slice().len() + 1;
     }),
     ("a chain named .", |records, _| {
-        records.chains.slice()[0] = u64::from(b'.') << 56;
+        records.chains.slice()[0].name = u64::from(b'.') << 56;
     }),
     ("a chain without a name", |records, _| {
-        records.chains.slice()[0] = 0
+        records.chains.slice()[0].name = 0
     }),
     ("a residue of another chain", |records, _| {
         records.residue_keys.slice()[0] += 5000 << 40;

@@ -11,7 +11,7 @@
 enum { CHAINS = 2, RESIDUES = 3, ATOMS = 3, LONGEST = 4096, PATTERN = 0xa5 };
 
 struct records {
-    uint64_t chains[CHAINS];
+    struct structure_intake_chain chains[CHAINS];
     uint64_t residue_keys[RESIDUES];
     uint64_t residue_names[RESIDUES];
     uint8_t residue_codes[RESIDUES];
@@ -155,7 +155,7 @@ static void check_untouched(const struct call *call)
 static void check_case(const struct buffer *text, const struct buffer *written)
 {
     const struct records model = {
-        .chains = {packed("A")},
+        .chains = {{packed("A")}},
         .residue_keys = {key(0, 7, 0), key(0, 9, 0)},
         .residue_names = {packed("MET"), packed("QQQ")},
         .residue_codes = {13, 0},

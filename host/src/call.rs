@@ -1,6 +1,6 @@
 //! The two exported calls of the proved library, and all that is unsafe here: a slice is a pointer
 //! and a length. `include/structure_intake.h` has their promises.
-use crate::records::Records;
+use crate::records::{ChainRecord, Records};
 
 pub const RESULT_BYTES: usize = 28;
 
@@ -20,7 +20,7 @@ unsafe extern "C" {
         out_length: usize,
         result: *mut u8,
         result_length: usize,
-        chains: *mut u64,
+        chains: *mut ChainRecord,
         chains_length: usize,
         residue_keys: *mut u64,
         residue_keys_length: usize,

@@ -1,7 +1,14 @@
-//! The records that are lent to a call, one slice to a field.
+//! The records that are lent to a call: a slice of chain records, and for residues and atoms one
+//! slice to a field.
+
+#[derive(Clone)]
+#[repr(C)]
+pub struct ChainRecord {
+    pub name: u64,
+}
 
 pub struct Records {
-    pub chains: Box<[u64]>,
+    pub chains: Box<[ChainRecord]>,
     pub residue_keys: Box<[u64]>,
     pub residue_names: Box<[u64]>,
     pub residue_codes: Box<[u8]>,
@@ -17,7 +24,7 @@ pub struct Records {
 impl Records {
     pub fn new(chains: usize, residues: usize, atoms: usize) -> Self {
         Self {
-            chains: zeros(chains),
+            chains: vec![ChainRecord { name: 0 }; chains].into(),
             residue_keys: zeros(residues),
             residue_names: zeros(residues),
             residue_codes: zeros(residues),

@@ -61,9 +61,10 @@ impl Room {
 
     /// The chains, in the order in which the text first names them.
     pub fn chains(&self) -> impl ExactSizeIterator<Item = Chain> {
-        let names = filled(&self.records.chains).iter();
-        names.map(|&name| Chain {
-            name: Name::of_packed(name),
+        let chains = &self.records.chains;
+        let filled = &chains[..chains.partition_point(|chain| chain.name != 0)];
+        filled.iter().map(|chain| Chain {
+            name: Name::of_packed(chain.name),
         })
     }
 

@@ -1,7 +1,7 @@
 -- The walk sees before each residue the chain of the last polymer residue, and behind it the next one: that is what tells whether it is the first and
 -- the last of its chain, since the keys ascend.
 use mathlib.Core.Path.{_≡_, refl, sym, ap, _∙_}
-use mathlib.Core.Bool.{Bool, true, false, not, false≢true}
+use mathlib.Core.Bool.{true, not}
 use mathlib.Core.List.{List, [], _∷_, _++_, map}
 use Prim.Native.Nat.{ℕ, zero, suc, _+_, _≤_, _<_}
 use native.Mathlib.Numerals.{add-one}
@@ -12,35 +12,17 @@ use lib.Seq.{take-suc, split-at}
 use Rattle.names.specs.Places.{ascends}
 use Rattle.names.specs.Polymers.{polymerOf}
 use Rattle.names.specs.Positions.{positionCode}
-use Rattle.names.specs.declared.residues.Polymer.{Polymer}
-use Rattle.names.specs.declared.residues.Polymer.the-variants.{Protein, Nucleic, Neither}
 use Rattle.records.specs.Places.{pairs}
 use Rattle.records.proofs.MapLaws.{map-drop}
 use Rattle.records.proofs.PairLaws.{take-pairs, map-pairs}
 use Rattle.model.specs.Keys.{chainPart}
 use Rattle.model.specs.Records.{ResidueRecord}
-use Rattle.model.specs.Termini.{positionBy, ofEither, isPolymer, isFirst, isLast, ruledPosition}
-use Rattle.model.specs.Walks.{metWith, metIn, endsChain}
+use Rattle.model.specs.Termini.{positionBy, isFirst, isLast, ruledPosition}
+use Rattle.model.specs.Walks.{metWith, metIn, endsChain, positionBetween}
 use Rattle.model.proofs.TerminiLaws.{first-is, last-is}
 use Rattle.finishing.specs.Filling.{filled}
-use Rattle.finishing.specs.Positioning.{positionBetween, metBefore, positionAt}
+use Rattle.finishing.specs.Positioning.{metBefore, positionAt}
 use Rattle.finishing.proofs.FillingLaws.{field-at, filled-on}
-
--- ---- of neither kind
-neither-placed : (p : Polymer) (first last first' last' : Bool) → ofEither p ≡ false → positionBy p first last ≡ positionBy p first' last'
-neither-placed Protein first last first' last' e = absurd (false≢true (sym e))
-neither-placed Nucleic first last first' last' e = absurd (false≢true (sym e))
-neither-placed Neither first last first' last' e = refl
-
-pub not-placed : (code : ℕ) (first last first' last' : Bool) → isPolymer code ≡ false → positionBy (polymerOf code) first last ≡ positionBy (polymerOf code) first' last'
-unfolding isPolymer
-not-placed code first last first' last' e = neither-placed (polymerOf code) first last first' last' e
-
--- ---- of another kind
-pub placed-by : (met key code chain : ℕ) (last : Bool) (after : List (ℕ × ℕ)) → chain ≡ chainPart key → last ≡ endsChain chain after
-    → positionCode (positionBy (polymerOf code) (not (eqb met (chain + 1))) last) ≡ positionBetween met key code after
-unfolding positionBetween
-placed-by met key code chain last after e f = rw (f, e, add-one)
 
 -- ---- a turn of the walk
 module _ (keys codes positions₀ : List ℕ) (n : ℕ) where

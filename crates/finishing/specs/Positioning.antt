@@ -1,20 +1,9 @@
 -- What a walk over residues in their order says of each one's position, by its index.
-use mathlib.Core.Bool.{not}
 use mathlib.Core.List.{List}
 use Prim.Native.Nat.{ℕ, zero, suc}
-use lib.Dec.{eqb}
 use lib.ListN.{getD, take, drop}
-use Rattle.names.specs.Polymers.{polymerOf}
-use Rattle.names.specs.Positions.{positionCode}
 use Rattle.records.specs.Places.{pairs}
-use Rattle.model.specs.Keys.{chainPart}
-use Rattle.model.specs.Termini.{positionBy}
-use Rattle.model.specs.Walks.{metWith, endsChain}
-
--- by the chain, from 1, of the last Standard non-HOH residue that was met, and the keys and codes of those after it
-unfoldable pub positionBetween : ℕ → ℕ → ℕ → List (ℕ × ℕ) → ℕ
-positionBetween met key code after =
-    positionCode (positionBy (polymerOf code) (not (eqb met (suc (chainPart key)))) (endsChain (chainPart key) after))
+use Rattle.model.specs.Walks.{metWith, positionBetween}
 
 -- the chain, from 1, of the last one before residue i
 unfoldable pub metBefore : List ℕ → List ℕ → ℕ → ℕ

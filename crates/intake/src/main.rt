@@ -1,7 +1,7 @@
 // The intake as a program: a text from standard input; what it says to standard output, written anew, or a line that says why not.
 use libc::STDIN_FILENO;
-use service::Answer;
-use service::serve_own;
+use serving::Answer;
+use serving::serve_own;
 
 mod say;
 

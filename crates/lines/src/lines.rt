@@ -40,7 +40,7 @@ fn line_length(text: &[u8], feed: usize) -> usize
 }
 
 // The line that begins at this place; from the text's end on there is none, and the end is answered.
-pub fn line_at(text: &[u8], from: usize) -> Line
+pub(crate) fn line_at(text: &[u8], from: usize) -> Line
     ensures { λ r. ⌜ LineOrEnd (now (text .entry)) from r ⌝ }
 {
     let size = text.len();

@@ -24,6 +24,7 @@ pub mod OccupancyIsFinite
 pub mod OrderOfLines
 pub mod OrderOfRows
 pub mod OutdoneCounted
+pub mod PlacedBetween
 pub mod PutByIndex
 pub mod ReadByTheRules
 pub mod RoomIsForTheEnd

@@ -3,9 +3,11 @@ use mathlib.Core.Bool.{Bool, true, not, cond}
 use mathlib.Core.List.{List, [], _∷_}
 use Prim.Native.Nat.{ℕ, suc}
 use lib.Dec.{eqb, ltb}
+use Rattle.names.specs.Polymers.{polymerOf}
+use Rattle.names.specs.Positions.{positionCode}
 use Rattle.model.specs.Keys.{chainPart}
 use Rattle.model.specs.Records.{ResidueRecord}
-use Rattle.model.specs.Termini.{isPolymer}
+use Rattle.model.specs.Termini.{positionBy, isPolymer}
 
 -- ---- atoms, by the keys of their residues
 
@@ -35,3 +37,8 @@ metIn met (r ∷ l) = metIn (metWith met (r .key) (r .code)) l
 unfoldable pub endsChain : ℕ → List (ℕ × ℕ) → Bool
 endsChain place [] = true
 endsChain place (r ∷ l) = cond (isPolymer (r .1)) (not (eqb (chainPart (r .0)) place)) (endsChain place l)
+
+-- the position of a residue, where the last Standard non-HOH one before it was of a chain, from 1, and by the keys and codes of those after it
+unfoldable pub positionBetween : ℕ → ℕ → ℕ → List (ℕ × ℕ) → ℕ
+positionBetween met key code after =
+    positionCode (positionBy (polymerOf code) (not (eqb met (suc (chainPart key)))) (endsChain (chainPart key) after))

@@ -33,7 +33,7 @@ fn position_by(kind: Polymer, first: bool, last: bool) -> ResiduePosition
 }
 
 // The number in a lent record.
-pub fn position_of(code: u8, first: bool, last: bool) -> u8
+pub(crate) fn position_of(code: u8, first: bool, last: bool) -> u8
     ensures { λ r. ⌜ r ≡ positionCode (positionBy (polymerOf code) first last) ⌝ }
 {
     position_by(Polymer::of_code(code), first, last).code()

@@ -1,12 +1,13 @@
 // What a walk over slices in order sees from where it stands, so that each slice is walked once.
 use crate::termini::is_polymer;
+use crate::termini::position_of;
 use records::smaller;
 ghost use mathlib.Core.Path.{_≡_};
 ghost use Prim.Native.Nat.{_+_};
 ghost use lib.ListN.{drop, take};
 ghost use Rattle.records.specs.Places.{pairs};
 ghost use Rattle.model.specs.Keys.{chainPart};
-ghost use Rattle.model.specs.Walks.{lessers, aloneIn, metWith, endsChain};
+ghost use Rattle.model.specs.Walks.{lessers, aloneIn, metWith, endsChain, positionBetween};
 
 // Past those of the first n that are less than key, from an index on.
 pub fn pass_lesser(keys: &[u64], n: usize, from: usize, key: u64) -> usize
@@ -55,7 +56,7 @@ pub fn met_with(met: u64, key: u64, code: u8) -> u64
 }
 
 // Whether the next Standard non-HOH residue among the first n, from an index on, is of another chain, or there is none.
-pub fn ends_chain(keys: &[u64], codes: &[u8], n: usize, from: usize, place: u64) -> bool
+fn ends_chain(keys: &[u64], codes: &[u8], n: usize, from: usize, place: u64) -> bool
     ensures { λ r. ⌜ r ≡ endsChain place (drop from (take n (pairs (now (keys .entry)) (now (codes .entry))))) ⌝ }
 {
     let count = smaller(n, smaller(keys.len(), codes.len()));
@@ -67,4 +68,25 @@ pub fn ends_chain(keys: &[u64], codes: &[u8], n: usize, from: usize, place: u64)
         i += 1;
     }
     true
+}
+
+// The position of a residue, by the chain, from 1, of the last Standard non-HOH residue before it, and the residues from index next on. Only such a
+// residue looks ahead, and no further than the next one, so that all of them together look at each residue once.
+pub fn position_between(
+    keys: &[u64],
+    codes: &[u8],
+    n: usize,
+    next: usize,
+    key: u64,
+    code: u8,
+    met: u64,
+) -> u8
+    ensures { λ r. ⌜ r ≡ positionBetween met key code (drop next (take n (pairs (now (keys .entry)) (now (codes .entry))))) ⌝ }
+{
+    if !is_polymer(code) {
+        return position_of(code, false, false);
+    }
+    let chain = chain_part(key);
+    let last = ends_chain(keys, codes, n, next, chain);
+    position_of(code, met != chain + 1, last)
 }

@@ -3,4 +3,4 @@ mod answers;
 mod reading;
 
 pub use answers::Answer;
-pub use reading::read;
+pub use reading::read_by_names;

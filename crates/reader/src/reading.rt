@@ -1,4 +1,4 @@
-// `read`: any bytes in; the model in the lent slices, or a refusal.
+// `read_by_names`: any bytes in; the model in the lent slices, or a refusal.
 use crate::answers::Answer;
 use building::Counts;
 use finishing::Finish;
@@ -105,7 +105,7 @@ fn close(
     }
 }
 
-pub fn read(
+pub fn read_by_names(
     text: &[u8],
     chains: &mut [u64],
     residue_keys: &mut [u64],

@@ -55,7 +55,7 @@ fn answer(text: &[u8]) {
     let mut elements = [0u8; 64];
     let mut positions = [[0.0; 3]; 64];
     let mut occupancies = [0.0; 64];
-    let answer = reader::read(
+    let answer = reader::read_by_names(
         text,
         &mut chains,
         &mut residue_keys,

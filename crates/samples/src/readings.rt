@@ -52,7 +52,7 @@ pub(crate) fn read(text: &[u8]) -> Reading {
     let mut elements = [0xa5u8; 8];
     let mut positions = [[-5.5; 3]; 8];
     let mut occupancies = [-5.5; 8];
-    let answer = reader::read(
+    let answer = reader::read_by_names(
         text,
         &mut chains,
         &mut residue_keys,

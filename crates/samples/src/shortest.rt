@@ -40,7 +40,7 @@ fn read(text: &[u8], shortest: usize) -> Answer {
     let n8 = length_of(8, shortest, 4);
     let n9 = length_of(9, shortest, 4);
     let n10 = length_of(10, shortest, 4);
-    reader::read(
+    reader::read_by_names(
         text,
         &mut chains[0..n0],
         &mut residue_keys[0..n1],

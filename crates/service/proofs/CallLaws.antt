@@ -5,8 +5,8 @@ use mathlib.Core.List.{List}
 use Prim.Native.Nat.{ℕ}
 use Rattle.model.specs.Lent.{Lent}
 use Rattle.service.specs.Results.{statusIn, numbersIn, bytesOf, isWhole, badResult, statusBy, recordsBy, bufferBy, resultBy, Calls, CallsOwn}
-use Rattle.service.specs.Serving.{Serves, ServesOwn}
-use Rattle.service.specs.declared.answers.Answer.{Answer}
+use Rattle.serving.specs.Serving.{Serves, ServesOwn}
+use Rattle.serving.specs.declared.answers.Answer.{Answer}
 
 module _ {A : Type 0} (b : Bool) (x y : A) where
   if-so : b ≡ true → x ≡ cond b x y

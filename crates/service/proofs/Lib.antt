@@ -1,11 +1,8 @@
 pub mod BytesTell
 pub mod CallLaws
+pub mod CallStored
 pub mod CountsAreSmall
 pub mod NeverTwelve
 pub mod NumbersFit
-pub mod OwnRoom
 pub mod RefusalsAreSmall
 pub mod ResultLaws
-pub mod ServedFits
-pub mod ServingLaws
-pub mod WrittenAsRead

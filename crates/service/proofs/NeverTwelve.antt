@@ -23,7 +23,7 @@ use Rattle.writer.specs.Writing as writer
 use Rattle.writer.specs.Writing.{written, writtenBut}
 use Rattle.writer.specs.declared.refusals.Refusal.the-variants.{OutputTooShort}
 use Rattle.service.specs.Results.{statusIn}
-use Rattle.service.specs.Serving.{byWriting, byReading, serveOf, answerOf}
+use Rattle.serving.specs.Serving.{byWriting, byReading, serveOf, answerOf}
 
 row-number : (why : row.Refusal) → row-numbers.numberOf why ≤ 9
 row-number (ColumnMissing k) = omega arith

@@ -25,12 +25,12 @@ use Rattle.writer.specs.Writing.{written, writtenBut}
 use Rattle.writer.specs.declared.refusals.Refusal.the-variants.{OutputTooShort}
 use Rattle.writer.proofs.TextIsShort.{text-short}
 use Rattle.service.specs.Results.{numbersIn, bytesOf}
-use Rattle.service.specs.Serving.{byWriting, byReading, ownRoom, serveOf, answerOf}
+use Rattle.serving.specs.Serving.{byWriting, byReading, ownRoom, serveOf, answerOf}
 use Rattle.service.proofs.BytesTell.{numbersTold, bytes-tell}
 use Rattle.service.proofs.CountsAreSmall.{counts-are-small}
-use Rattle.service.proofs.OwnRoom.{own-room}
+use Rattle.serving.proofs.OwnRoom.{own-room}
 use Rattle.service.proofs.RefusalsAreSmall.{refusals-are-small}
-use Rattle.service.proofs.WrittenAsRead.{within, well-held}
+use Rattle.serving.proofs.WrittenAsRead.{within, well-held}
 
 abbrev Small : ℕ → Type 0
 Small n = n < 2 ^ 32

@@ -8,8 +8,8 @@ use lib.ListN.{length, getD, take, drop, length-append}
 use lib.Seq.{sets, sets-eq, length-sets, take-suc, take-at, take-all, length-take-le}
 use borrow.Author.Tests.{eqb-true}
 use Rattle.service.specs.Results.{numbersIn, littleEndian, bytesOf, isWhole}
-use Rattle.service.specs.declared.answers.Answer.{Answer}
-use Rattle.service.specs.declared.answers.Answer.the-variants.{Served, Refused}
+use Rattle.serving.specs.declared.answers.Answer.{Answer}
+use Rattle.serving.specs.declared.answers.Answer.the-variants.{Served, Refused}
 
 seven : (answer : Answer) → length (numbersIn answer) ≡ 7
 seven (Served written counts) = refl

@@ -6,9 +6,9 @@ use Prim.Native.Nat.{ℕ, _/_, _%_, _^_}
 use lib.Dec.{eqb}
 use lib.ListN.{length}
 use Rattle.model.specs.Lent.{Lent, roomOf}
-use Rattle.service.specs.declared.answers.Answer.{Answer}
-use Rattle.service.specs.declared.answers.Answer.the-variants.{Served, Refused}
-use Rattle.service.specs.Serving.{Serving, ownRoom, serveOf, answerOf, leftIn, writtenTo, numberOf, lineOf, detailOf}
+use Rattle.serving.specs.declared.answers.Answer.{Answer}
+use Rattle.serving.specs.declared.answers.Answer.the-variants.{Served, Refused}
+use Rattle.serving.specs.Serving.{Serving, ownRoom, serveOf, answerOf, leftIn, writtenTo, numberOf, lineOf, detailOf}
 
 -- "the refusal number, or 0"
 abbrev pub statusIn : Answer → ℕ
@@ -32,6 +32,10 @@ bytesOf (n ∷ numbers) = littleEndian n ++ bytesOf numbers
 
 abbrev pub isWhole : List ℕ → Bool
 isWhole result = eqb (length result) 28
+
+-- how many of the chain records a call writes, by the length of its result
+abbrev pub renewedIn : ℕ → ℕ → ℕ
+renewedIn size chains = cond (eqb size 28) chains 0
 
 abbrev pub badResult : ℕ
 badResult = 26

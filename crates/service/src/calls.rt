@@ -1,23 +1,40 @@
 // The service through C conventions: each slice is a pointer and a length. Nothing is kept after a call, and nothing is allocated.
-use crate::own::serve_own;
 use crate::results::is_whole;
 use crate::results::put_numbers;
 use crate::results::status_of;
-use crate::serving::serve;
+use chains::Chain;
+use chains::Names;
+use chains::no_names;
+use chains::store_names;
+use serving::serve;
+use serving::serve_own;
+ghost use mathlib.Core.Path.{_≡_};
+ghost use Prim.Native.Nat.{_≤_};
+ghost use lib.ListN.{length, take};
+ghost use Rattle.chains.specs.Names.{namesIn};
 ghost use Rattle.model.specs.Lent.{lentOf};
-ghost use Rattle.service.specs.Results.{Calls, CallsOwn};
+ghost use Rattle.service.specs.Results.{renewedIn, Calls, CallsOwn};
 
 // The host call's own refusal.
 const BAD_RESULT: u32 = 26;
 
-// The service in the caller's records: the room is by the shortest slice of each kind. After 0 they hold the model, after 26 all is as it was,
-// and after any other refusal every record is zero.
-#[no_mangle]
-pub extern "C" fn structure_intake_lent(
+// How many chain records are written anew, of so many: none where the result is refused.
+fn renewed(result_size: usize, size: usize) -> usize
+    ensures { λ r. ⌜ r ≡ renewedIn «result_size» size ⌝ }
+{
+    if result_size == 28 {
+        return size;
+    }
+    0
+}
+
+// The names as long as the chain list is.
+fn call_first(
     text: &[u8],
     out: &mut [u8],
     result: &mut [u8],
-    chains: &mut [u64],
+    names: &mut [u64],
+    size: usize,
     residue_keys: &mut [u64],
     residue_names: &mut [u64],
     residue_codes: &mut [u8],
@@ -29,8 +46,9 @@ pub extern "C" fn structure_intake_lent(
     positions: &mut [[f64; 3]],
     occupancies: &mut [f64],
 ) -> u32
-    ensures { λ r. ⌜ Calls (lentOf (now (chains .entry)) (now («residue_keys» .entry)) (now («residue_names» .entry)) (now («residue_codes» .entry)) (now («residue_categories» .entry)) (now («residue_positions» .entry)) (now («atom_keys» .entry)) (now («atom_names» .entry)) (now (elements .entry)) (now (positions .entry)) (now (occupancies .entry))) (now (text .entry)) (now (out .entry)) (now (result .entry)) r
-        (lentOf (now (chains .exit)) (now («residue_keys» .exit)) (now («residue_names» .exit)) (now («residue_codes» .exit)) (now («residue_categories» .exit)) (now («residue_positions» .exit)) (now («atom_keys» .exit)) (now («atom_names» .exit)) (now (elements .exit)) (now (positions .exit)) (now (occupancies .exit))) (now (out .exit)) (now (result .exit)) ⌝ }
+    requires { ⌜ size ≤ length (now names) ⌝ }
+    ensures { λ r. ⌜ Calls (lentOf (take size (now (names .entry))) (now («residue_keys» .entry)) (now («residue_names» .entry)) (now («residue_codes» .entry)) (now («residue_categories» .entry)) (now («residue_positions» .entry)) (now («atom_keys» .entry)) (now («atom_names» .entry)) (now (elements .entry)) (now (positions .entry)) (now (occupancies .entry))) (now (text .entry)) (now (out .entry)) (now (result .entry)) r
+        (lentOf (take size (now (names .exit))) (now («residue_keys» .exit)) (now («residue_names» .exit)) (now («residue_codes» .exit)) (now («residue_categories» .exit)) (now («residue_positions» .exit)) (now («atom_keys» .exit)) (now («atom_names» .exit)) (now (elements .exit)) (now (positions .exit)) (now (occupancies .exit))) (now (out .exit)) (now (result .exit)) ⌝ }
 {
     if !is_whole(result) {
         return BAD_RESULT;
@@ -38,7 +56,7 @@ pub extern "C" fn structure_intake_lent(
     let answer = serve(
         text,
         out,
-        chains,
+        &mut names[0..size],
         residue_keys,
         residue_names,
         residue_codes,
@@ -52,6 +70,93 @@ pub extern "C" fn structure_intake_lent(
     );
     put_numbers(result, answer);
     status_of(answer)
+}
+
+// The call by names, for a chain list of so many records.
+fn call_into(
+    text: &[u8],
+    out: &mut [u8],
+    result: &mut [u8],
+    names: &mut Names,
+    size: usize,
+    residue_keys: &mut [u64],
+    residue_names: &mut [u64],
+    residue_codes: &mut [u8],
+    residue_categories: &mut [u8],
+    residue_positions: &mut [u8],
+    atom_keys: &mut [u64],
+    atom_names: &mut [u64],
+    elements: &mut [u8],
+    positions: &mut [[f64; 3]],
+    occupancies: &mut [f64],
+) -> u32
+    ensures { λ r. ⌜ Calls (lentOf (take size (now (names .entry))) (now («residue_keys» .entry)) (now («residue_names» .entry)) (now («residue_codes» .entry)) (now («residue_categories» .entry)) (now («residue_positions» .entry)) (now («atom_keys» .entry)) (now («atom_names» .entry)) (now (elements .entry)) (now (positions .entry)) (now (occupancies .entry))) (now (text .entry)) (now (out .entry)) (now (result .entry)) r
+        (lentOf (take size (now (names .exit))) (now («residue_keys» .exit)) (now («residue_names» .exit)) (now («residue_codes» .exit)) (now («residue_categories» .exit)) (now («residue_positions» .exit)) (now («atom_keys» .exit)) (now («atom_names» .exit)) (now (elements .exit)) (now (positions .exit)) (now (occupancies .exit))) (now (out .exit)) (now (result .exit)) ⌝ }
+{
+    let size = chains::kept(size);
+    call_first(
+        text,
+        out,
+        result,
+        names,
+        size,
+        residue_keys,
+        residue_names,
+        residue_codes,
+        residue_categories,
+        residue_positions,
+        atom_keys,
+        atom_names,
+        elements,
+        positions,
+        occupancies,
+    )
+}
+
+// The service in the caller's records: the room is by the shortest slice of each kind. After 0 they hold the model, after 26 all is as it was,
+// and after any other refusal every record is zero.
+#[no_mangle]
+pub extern "C" fn structure_intake_lent(
+    text: &[u8],
+    out: &mut [u8],
+    result: &mut [u8],
+    chains: &mut [Chain],
+    residue_keys: &mut [u64],
+    residue_names: &mut [u64],
+    residue_codes: &mut [u8],
+    residue_categories: &mut [u8],
+    residue_positions: &mut [u8],
+    atom_keys: &mut [u64],
+    atom_names: &mut [u64],
+    elements: &mut [u8],
+    positions: &mut [[f64; 3]],
+    occupancies: &mut [f64],
+) -> u32
+    ensures { λ r. ⌜ Calls (lentOf (namesIn (now (chains .entry))) (now («residue_keys» .entry)) (now («residue_names» .entry)) (now («residue_codes» .entry)) (now («residue_categories» .entry)) (now («residue_positions» .entry)) (now («atom_keys» .entry)) (now («atom_names» .entry)) (now (elements .entry)) (now (positions .entry)) (now (occupancies .entry))) (now (text .entry)) (now (out .entry)) (now (result .entry)) r
+        (lentOf (namesIn (now (chains .exit))) (now («residue_keys» .exit)) (now («residue_names» .exit)) (now («residue_codes» .exit)) (now («residue_categories» .exit)) (now («residue_positions» .exit)) (now («atom_keys» .exit)) (now («atom_names» .exit)) (now (elements .exit)) (now (positions .exit)) (now (occupancies .exit))) (now (out .exit)) (now (result .exit)) ⌝ }
+{
+    let mut names = no_names();
+    let size = chains.len();
+    let count = renewed(result.len(), size);
+    let status = call_into(
+        text,
+        out,
+        result,
+        &mut names,
+        size,
+        residue_keys,
+        residue_names,
+        residue_codes,
+        residue_categories,
+        residue_positions,
+        atom_keys,
+        atom_names,
+        elements,
+        positions,
+        occupancies,
+    );
+    store_names(chains, &names, count);
+    status
 }
 
 // The service with records of its own.

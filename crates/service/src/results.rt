@@ -1,5 +1,5 @@
 // What the host call answers: a number, and seven numbers in a lent result, four bytes each, the lowest first.
-use crate::answers::Answer;
+use serving::Answer;
 ghost use mathlib.Core.Path.{_≡_};
 ghost use mathlib.Core.Bool.{true};
 ghost use Prim.Native.Nat.{_+_, _≤_};

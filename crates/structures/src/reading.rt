@@ -1,9 +1,11 @@
 // The reader through C conventions: what it answers in ten numbers, and the model in the slices.
 use building::Counts;
+use chains::Chain;
 use reader::Answer;
 use records::store_u64;
 ghost use mathlib.Core.Path.{_≡_};
 ghost use lib.Seq.{sets};
+ghost use Rattle.chains.specs.Names.{namesIn};
 ghost use Rattle.model.specs.Lent.{lentOf};
 ghost use Rattle.structures.specs.Readings.{numberIn, lineIn, detailIn, countsIn, numbersOf, ReadInto};
 
@@ -70,8 +72,9 @@ fn put_numbers(numbers: &mut [u64], answer: Answer)
 // Number, line and detail of a refusal, then chains, residues, atoms, rows, skipped, outdone and assumed; zeros for what there is none of.
 #[no_mangle]
 pub extern "C" fn probe_read(
+    numbers: &mut [u64],
     text: &[u8],
-    chains: &mut [u64],
+    chains: &mut [Chain],
     residue_keys: &mut [u64],
     residue_names: &mut [u64],
     residue_codes: &mut [u8],
@@ -82,12 +85,11 @@ pub extern "C" fn probe_read(
     elements: &mut [u8],
     positions: &mut [[f64; 3]],
     occupancies: &mut [f64],
-    numbers: &mut [u64],
 )
-    ensures { λ _. ⌜ ReadInto (lentOf (now (chains .entry)) (now («residue_keys» .entry)) (now («residue_names» .entry)) (now («residue_codes» .entry)) (now («residue_categories» .entry)) (now («residue_positions» .entry)) (now («atom_keys» .entry)) (now («atom_names» .entry)) (now (elements .entry)) (now (positions .entry)) (now (occupancies .entry))) (now (text .entry)) (now (numbers .entry)) (now (numbers .exit))
-        (lentOf (now (chains .exit)) (now («residue_keys» .exit)) (now («residue_names» .exit)) (now («residue_codes» .exit)) (now («residue_categories» .exit)) (now («residue_positions» .exit)) (now («atom_keys» .exit)) (now («atom_names» .exit)) (now (elements .exit)) (now (positions .exit)) (now (occupancies .exit))) ⌝ }
+    ensures { λ _. ⌜ ReadInto (lentOf (namesIn (now (chains .entry))) (now («residue_keys» .entry)) (now («residue_names» .entry)) (now («residue_codes» .entry)) (now («residue_categories» .entry)) (now («residue_positions» .entry)) (now («atom_keys» .entry)) (now («atom_names» .entry)) (now (elements .entry)) (now (positions .entry)) (now (occupancies .entry))) (now (text .entry)) (now (numbers .entry)) (now (numbers .exit))
+        (lentOf (namesIn (now (chains .exit))) (now («residue_keys» .exit)) (now («residue_names» .exit)) (now («residue_codes» .exit)) (now («residue_categories» .exit)) (now («residue_positions» .exit)) (now («atom_keys» .exit)) (now («atom_names» .exit)) (now (elements .exit)) (now (positions .exit)) (now (occupancies .exit))) ⌝ }
 {
-    let answer = reader::read(
+    let answer = lent::read(
         text,
         chains,
         residue_keys,

@@ -1,8 +1,10 @@
 // The writer through C conventions: what it answers in three numbers, and the text in the buffer.
+use chains::Chain;
 use records::store_u64;
 use writer::Answer;
 ghost use mathlib.Core.Path.{_≡_};
 ghost use lib.Seq.{sets};
+ghost use Rattle.chains.specs.Names.{namesIn};
 ghost use Rattle.model.specs.Lent.{lentOf};
 ghost use Rattle.structures.specs.Writings.{numberIn, detailIn, writtenIn, numbersOf, WrittenInto};
 
@@ -44,7 +46,8 @@ fn put_numbers(numbers: &mut [u64], answer: Answer)
 // Number and detail of a refusal, and how many bytes were written; zeros for what there is none of.
 #[no_mangle]
 pub extern "C" fn probe_write(
-    chains: &[u64],
+    numbers: &mut [u64],
+    chains: &[Chain],
     residue_keys: &[u64],
     residue_names: &[u64],
     residue_codes: &[u8],
@@ -59,11 +62,10 @@ pub extern "C" fn probe_write(
     residue_count: usize,
     atom_count: usize,
     out: &mut [u8],
-    numbers: &mut [u64],
 )
-    ensures { λ _. ⌜ WrittenInto (lentOf (now (chains .entry)) (now («residue_keys» .entry)) (now («residue_names» .entry)) (now («residue_codes» .entry)) (now («residue_categories» .entry)) (now («residue_positions» .entry)) (now («atom_keys» .entry)) (now («atom_names» .entry)) (now (elements .entry)) (now (positions .entry)) (now (occupancies .entry))) «chain_count» «residue_count» «atom_count» (now (out .entry)) (now (numbers .entry)) (now (out .exit)) (now (numbers .exit)) ⌝ }
+    ensures { λ _. ⌜ WrittenInto (lentOf (namesIn (now (chains .entry))) (now («residue_keys» .entry)) (now («residue_names» .entry)) (now («residue_codes» .entry)) (now («residue_categories» .entry)) (now («residue_positions» .entry)) (now («atom_keys» .entry)) (now («atom_names» .entry)) (now (elements .entry)) (now (positions .entry)) (now (occupancies .entry))) «chain_count» «residue_count» «atom_count» (now (out .entry)) (now (numbers .entry)) (now (out .exit)) (now (numbers .exit)) ⌝ }
 {
-    let answer = writer::write_structure(
+    let answer = lent::write_structure(
         chains,
         residue_keys,
         residue_names,

@@ -245,7 +245,7 @@ fn take_lines(
     let mut number = 1;
     let mut at = onward(halt, 0, text.len());
     while at < text.len() {
-        let line = lines::line_at(text, at);
+        let line = lines::line_from(text, at);
         let end = line.end;
         stage = take_line(
             chains,

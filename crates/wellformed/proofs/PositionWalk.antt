@@ -12,10 +12,10 @@ use Rattle.names.specs.Positions.{positionCode}
 use Rattle.model.specs.Keys.{chainPart}
 use Rattle.model.specs.Records.{ResidueRecord}
 use Rattle.model.specs.Termini.{positionBy, isFirst, isLast, ruledPosition}
-use Rattle.model.specs.Walks.{metWith, metIn, endsChain}
+use Rattle.model.specs.Walks.{metWith, metIn, endsChain, positionBetween}
 use Rattle.ascii.specs.Lists.{every}
 use Rattle.model.proofs.TerminiLaws.{first-is, last-is}
-use Rattle.wellformed.specs.Walks.{Standing, positionAfter, standsFrom}
+use Rattle.wellformed.specs.Walks.{Standing, standsFrom}
 
 abbrev pub standing : ResidueRecord → Standing
 standing r = record { key = r .key; code = r .code; position = r .position }
@@ -27,8 +27,8 @@ met-next met (t ∷ before) r = met-next (metWith met (t .key) (t .code)) before
 
 module _ (residues : List ResidueRecord) (a : ascends (map (λ r. r .key) residues) ≡ true) where
   ruled : (before : List ResidueRecord) (r : ResidueRecord) (after : List ResidueRecord) → residues ≡ before ++ r ∷ after
-      → positionAfter (metIn 0 before) (r .key) (r .code) (map (λ t. (t .key, t .code)) (map standing after)) ≡ ruledPosition residues r
-  unfolding ruledPosition
+      → positionBetween (metIn 0 before) (r .key) (r .code) (map (λ t. (t .key, t .code)) (map standing after)) ≡ ruledPosition residues r
+  unfolding ruledPosition positionBetween
   ruled before r after e =
       let b : ascends (map (λ t. t .key) (before ++ r ∷ after)) ≡ true = subst (λ (l : List ResidueRecord). ascends (map (λ t. t .key) l) ≡ true) e a in
       let f : not (eqb (metIn 0 before) (suc (chainPart (r .key)))) ≡ isFirst residues r = sym (ap (λ (l : List ResidueRecord). isFirst l r) e ∙ first-is before r after b) in

@@ -1,23 +1,16 @@
 -- One turn of each walk over the residues: what is left is tested from where the turn leaves off.
-use mathlib.Core.Path.{_≡_, refl, sym, ap, _∙_}
-use mathlib.Core.Bool.{Bool, true, false, not, _&&_, false≢true}
+use mathlib.Core.Path.{_≡_, sym, ap, _∙_}
+use mathlib.Core.Bool.{Bool, true, false, _&&_}
 use mathlib.Core.List.{List}
 use Prim.Native.Nat.{ℕ, _+_, _≤_, _<_}
-use native.Mathlib.Numerals.{add-one}
 use lib.Dec.{eqb}
 use lib.ListN.{length, getD, take, drop}
 use borrow.Author.Tests.{eq-eqb, ne-eqb}
-use Rattle.names.specs.Polymers.{polymerOf}
-use Rattle.names.specs.Positions.{positionCode}
-use Rattle.names.specs.declared.residues.Polymer.{Polymer}
-use Rattle.names.specs.declared.residues.Polymer.the-variants.{Protein, Nucleic, Neither}
 use Rattle.records.specs.Places.{pairs}
-use Rattle.model.specs.Keys.{chainPart}
 use Rattle.model.specs.declared.classes.Class.{Class}
-use Rattle.model.specs.Termini.{positionBy, isPolymer, ofEither}
-use Rattle.model.specs.Walks.{lessers, aloneIn, metWith, endsChain}
+use Rattle.model.specs.Walks.{lessers, aloneIn, metWith, positionBetween}
 use Rattle.wellformed.specs.Slices.{standingIn}
-use Rattle.wellformed.specs.Walks.{isClassed, classedFrom, Standing, positionAfter, standsFrom}
+use Rattle.wellformed.specs.Walks.{isClassed, classedFrom, Standing, standsFrom}
 use Rattle.wellformed.proofs.FromLaws.{rest, rest-turn, rest-end}
 use Rattle.wellformed.proofs.SliceLaws.{pairs-are, map-from}
 
@@ -47,21 +40,6 @@ module _ (atoms : List ℕ) (at : ℕ → ℕ × Class) (n from i : ℕ) where
 
 -- ---- positions
 
--- of a residue that is of neither kind it does not matter what stands around it
-pub alike : (code : ℕ) (first last : Bool) → isPolymer code ≡ false → (f l : Bool) → positionCode (positionBy (polymerOf code) first last) ≡ positionCode (positionBy (polymerOf code) f l)
-unfolding isPolymer
-alike code first last e f l = go (polymerOf code) e
-  where
-    go : (k : Polymer) → ofEither k ≡ false → positionCode (positionBy k first last) ≡ positionCode (positionBy k f l)
-    go Neither e = refl
-    go Protein e = absurd (false≢true (sym e))
-    go Nucleic e = absurd (false≢true (sym e))
-
--- the place of the chain and the test of those after it, as they were found
-pub placed : (met key code place : ℕ) (last : Bool) (after : List (ℕ × ℕ)) → place ≡ chainPart key → last ≡ endsChain place after
-    → positionCode (positionBy (polymerOf code) (not (eqb met (place + 1))) last) ≡ positionAfter met key code after
-placed met key code place last after e f = rw (f, e, add-one)
-
 module _ (keys codes positions : List ℕ) (n met i : ℕ) where
   abbrev at : ℕ → Standing
   at k = standingIn keys codes positions k
@@ -72,13 +50,13 @@ module _ (keys codes positions : List ℕ) (n met i : ℕ) where
 
   module _ (h : i < n) (k : n ≤ length keys) (c : n ≤ length codes) where
     abbrev pub ruled : ℕ
-    ruled = positionAfter met (getD keys i 0) (getD codes i 0) (drop (i + 1) (take n (pairs keys codes)))
+    ruled = positionBetween met (getD keys i 0) (getD codes i 0) (drop (i + 1) (take n (pairs keys codes)))
 
     stand-turn : standsFrom met (rest at n i) ≡ (eqb (getD positions i 0) ruled && standsFrom (metWith met (getD keys i 0) (getD codes i 0)) (rest at n (i + 1)))
     unfolding standsFrom
     stand-turn =
         ap (standsFrom met) (rest-turn at n i h)
-        ∙ ap (λ (l : List (ℕ × ℕ)). eqb (getD positions i 0) (positionAfter met (getD keys i 0) (getD codes i 0) l) && standsFrom (metWith met (getD keys i 0) (getD codes i 0)) (rest at n (i + 1)))
+        ∙ ap (λ (l : List (ℕ × ℕ)). eqb (getD positions i 0) (positionBetween met (getD keys i 0) (getD codes i 0) l) && standsFrom (metWith met (getD keys i 0) (getD codes i 0)) (rest at n (i + 1)))
         (map-from (λ t. (t .key, t .code)) at (i + 1) _ ∙ pairs-are keys codes n (i + 1) k c)
 
     pub stands-on : (next : ℕ) → next ≡ metWith met (getD keys i 0) (getD codes i 0) → getD positions i 0 ≡ ruled → standsFrom met (rest at n i) ≡ standsFrom next (rest at n (i + 1))

@@ -1,16 +1,12 @@
 -- The residues tested in one walk: their classes, while the atoms are passed, and their positions, while the chains are.
-use mathlib.Core.Bool.{Bool, true, not, _&&_}
+use mathlib.Core.Bool.{Bool, true, _&&_}
 use mathlib.Core.List.{List, [], _∷_, map}
-use Prim.Native.Nat.{ℕ, suc, _+_}
+use Prim.Native.Nat.{ℕ, _+_}
 use lib.Dec.{eqb}
 use lib.ListN.{drop}
-use Rattle.names.specs.Polymers.{polymerOf}
-use Rattle.names.specs.Positions.{positionCode}
-use Rattle.model.specs.Keys.{chainPart}
 use Rattle.model.specs.declared.classes.Class.{Class}
 use Rattle.model.specs.Classes.{classOf}
-use Rattle.model.specs.Termini.{positionBy}
-use Rattle.model.specs.Walks.{lessers, aloneIn, metWith, endsChain}
+use Rattle.model.specs.Walks.{lessers, aloneIn, metWith, positionBetween}
 
 -- ---- classes
 
@@ -35,13 +31,8 @@ pub record Standing : Type 0 where
   pub code : ℕ
   pub position : ℕ
 
--- the position of a residue of a key and a code, where the last Standard non-HOH one before it was of a chain, and by those after it
-abbrev pub positionAfter : ℕ → ℕ → ℕ → List (ℕ × ℕ) → ℕ
-positionAfter met key code after =
-    positionCode (positionBy (polymerOf code) (not (eqb met (suc (chainPart key)))) (endsChain (chainPart key) after))
-
 unfoldable pub standsFrom : ℕ → List Standing → Bool
 standsFrom met [] = true
 standsFrom met (r ∷ l) =
-    eqb (r .position) (positionAfter met (r .key) (r .code) (map (λ t. (t .key, t .code)) l))
+    eqb (r .position) (positionBetween met (r .key) (r .code) (map (λ t. (t .key, t .code)) l))
     && standsFrom (metWith met (r .key) (r .code)) l

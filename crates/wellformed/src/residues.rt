@@ -1,20 +1,16 @@
 // The residues: names and insertion codes; classes, while the atoms are passed; positions, while the chains are.
 use crate::fields::has_code;
 use crate::fields::is_name;
-use model::chain_part;
 use model::class_of;
-use model::ends_chain;
 use model::is_alone;
-use model::is_polymer;
 use model::met_with;
 use model::pass_lesser;
-use model::position_of;
+use model::position_between;
 ghost use mathlib.Core.Path.{_≡_};
-ghost use Prim.Native.Nat.{_+_, _≤_, _<_};
-ghost use lib.ListN.{length, take, drop};
-ghost use Rattle.records.specs.Places.{pairs};
-ghost use Rattle.wellformed.specs.Slices.{entries, isResidueNamed, residuesNamed, residuesClassed, residuesStand, residuesWell};
-ghost use Rattle.wellformed.specs.Walks.{isClassed, positionAfter};
+ghost use Prim.Native.Nat.{_≤_};
+ghost use lib.ListN.{length};
+ghost use Rattle.wellformed.specs.Slices.{isResidueNamed, residuesNamed, residuesClassed, residuesStand, residuesWell};
+ghost use Rattle.wellformed.specs.Walks.{isClassed};
 
 // ---- names and insertion codes
 
@@ -91,21 +87,6 @@ fn are_classed(
 
 // ---- positions
 
-// The position of the residue at index i, where met is the chain, from 1, of the last Standard non-HOH residue before it. Any other residue
-// has none, whatever stands around it: so only from one such residue to the next is there a look ahead, and each is passed once.
-fn position_at(keys: &[u64], codes: &[u8], n: usize, i: usize, met: u64) -> u8
-    requires { ⌜ (i < n) × (n ≤ length (now keys)) × (n ≤ length (now codes)) ⌝ }
-    ensures { λ r. ⌜ r ≡ positionAfter met (entries (now (keys .entry)) i) (entries (now (codes .entry)) i) (drop (i + 1) (take n (pairs (now (keys .entry)) (now (codes .entry))))) ⌝ }
-{
-    let place = chain_part(keys[i]);
-    let code = codes[i];
-    if !is_polymer(code) {
-        return position_of(code, true, true);
-    }
-    let last = ends_chain(keys, codes, n, i + 1, place);
-    position_of(code, met != place + 1, last)
-}
-
 fn are_positioned(keys: &[u64], codes: &[u8], positions: &[u8], n: usize) -> bool
     requires { ⌜ (n ≤ length (now keys)) × (n ≤ length (now codes)) × (n ≤ length (now positions)) ⌝ }
     ensures { λ r. ⌜ r ≡ residuesStand (now (keys .entry)) (now (codes .entry)) (now (positions .entry)) n ⌝ }
@@ -113,11 +94,13 @@ fn are_positioned(keys: &[u64], codes: &[u8], positions: &[u8], n: usize) -> boo
     let mut met = 0;
     let mut i = 0;
     while i < n {
-        let position = position_at(keys, codes, n, i, met);
+        let key = keys[i];
+        let code = codes[i];
+        let position = position_between(keys, codes, n, i + 1, key, code, met);
         if positions[i] != position {
             return false;
         }
-        met = met_with(met, keys[i], codes[i]);
+        met = met_with(met, key, code);
         i += 1;
     }
     true

@@ -1,4 +1,4 @@
-// `write_structure`: the text of a model in lent records, byte for byte, or a refusal.
+// `write_by_names`: the text of a model in lent records, byte for byte, or a refusal.
 mod answers;
 mod atoms;
 mod chains;
@@ -11,4 +11,4 @@ mod writing;
 
 pub use answers::Answer;
 pub use refusals::Refusal;
-pub use writing::write_structure;
+pub use writing::write_by_names;

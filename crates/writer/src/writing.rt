@@ -1,4 +1,4 @@
-// `write_structure`: refusals 12, 13 and 14 in order, and then the text.
+// `write_by_names`: refusals 12, 13 and 14 in order, and then the text.
 use crate::answers::Answer;
 use crate::atoms::put_atom_loop;
 use crate::headers::put_opening;
@@ -188,7 +188,7 @@ fn write_writable(
 }
 
 // 12: a model that is not well formed; and then the others in order.
-pub fn write_structure(
+pub fn write_by_names(
     chains: &[u64],
     residue_keys: &[u64],
     residue_names: &[u64],

@@ -1,6 +1,6 @@
 -- What is served fits the buffer, so that it is a part of it.
 use native.Mathlib.Omega.{arith}
-use Rattle.service.proofs.ServedFits.{own-fits}
+use Rattle.serving.proofs.ServedFits.{own-fits}
 use borrow.Author.Needs.{needs}
 use Rattle.intake.proofs.main.Statement.{statement}
 use Rattle.intake.proofs.main.Tie as tie

@@ -25,11 +25,11 @@ u64-at-requires c κs = search needs
 byte-at-requires : tie.Need-byte-at-requires Inv-loop μ-loop
 byte-at-requires c κs = search needs
 
-add-position-in : tie.Need-add-position-in Inv-loop μ-loop
-add-position-in c = search needs
+add-position-between : tie.Need-add-position-between Inv-loop μ-loop
+add-position-between c = search needs
 
-position-in-requires : tie.Need-position-in-requires Inv-loop μ-loop
-position-in-requires c κs = search needs
+position-between-requires : tie.Need-position-between-requires Inv-loop μ-loop
+position-between-requires c κs = search needs
 
 store-u8-requires : tie.Need-store-u8-requires Inv-loop μ-loop
 store-u8-requires c κs = search needs
@@ -47,7 +47,7 @@ loop-again : tie.Need-loop-again Inv-loop μ-loop
 loop-again c =
     let a = c .before .before .before .before .before .before .before .before .before .before .before .before .before .args in
     positioning-on (a .keys .now) (a .codes .now) (a .positions .now) (a .n) (c .before .before .before .before .before .before .before .before .before .loop .inv) (c .before .before .before .before .before .before .before .before .loop-test .taken) (c .before .before .before .before .before .before .before .u64-at .ensures)
-    (c .before .before .before .before .before .before .byte-at .ensures) (c .before .before .before .before .before .position-in .ensures) (c .before .before .before .store-u8 .ensures) (c .met-with .ensures)
+    (c .before .before .before .before .before .before .byte-at .ensures) (c .before .before .before .before .before .position-between .ensures) (c .before .before .before .store-u8 .ensures) (c .met-with .ensures)
 
 same-length : tie.Need-same-length Inv-loop μ-loop
 same-length c =
@@ -66,8 +66,8 @@ position-residues-spec =
     loop-holds
     u64-at-requires
     byte-at-requires
-    add-position-in
-    position-in-requires
+    add-position-between
+    position-between-requires
     store-u8-requires
     met-with-requires
     add-i

@@ -45,18 +45,18 @@ headed c = c .before .before .before .before .before .before .before .before .be
 abbrev entered : tie.After-onward2 Inv-loop μ-loop → tie.In-loop Inv-loop μ-loop
 entered c = c .before .before .before .before .before .before .before .before .before .before .before .before .before .before .before .before .before .before .before .before .before .before .before .before .before .before .before .before .before .before
 
-abbrev lined : tie.After-onward2 Inv-loop μ-loop → tie.After-line-at Inv-loop μ-loop
+abbrev lined : tie.After-onward2 Inv-loop μ-loop → tie.After-line-from Inv-loop μ-loop
 lined c = c .before .before .before .before .before .before .before .before .before .before .before .before .before .before .before .before .before .before .before .before .before .before .before .before .before .before .before .before .before
 
 abbrev took : tie.After-onward2 Inv-loop μ-loop → tie.After-take-line Inv-loop μ-loop
 took c = c .before .before .before .before .before .before .before .before .before .before .before .before .before .before .before .before .before .before
 
-line-here : (p : tie.After-line-at Inv-loop μ-loop) → LineAt (p .before .before .before .before .before .before .before .before .before .before .before .before .before .before .before .args .text .now) (p .before .before .loop .at) (p .line-at .result)
-line-here p = p .line-at .ensures .line (p .before .loop-test .taken)
+line-here : (p : tie.After-line-from Inv-loop μ-loop) → LineAt (p .before .before .before .before .before .before .before .before .before .before .before .before .before .before .before .args .text .now) (p .before .before .loop .at) (p .line-from .result)
+line-here p = p .line-from .ensures .line (p .before .loop-test .taken)
 
 moved : (c : tie.After-onward2 Inv-loop μ-loop) → (headed c .loop .at < c .onward2 .result) × (c .onward2 .result ≤ length (started c .args .text .now))
 moved c =
-    moves (started c .args .text .now) (headed c .loop .at) (c .onward2 .result) (lined c .line-at .result) (took c .take-line .result .halt)
+    moves (started c .args .text .now) (headed c .loop .at) (c .onward2 .result) (lined c .line-from .result) (took c .take-line .result .halt)
     (line-here (lined c)) (entered c .loop-test .taken) (c .onward2 .ensures)
 
 start-heads-requires : tie.Need-start-heads-requires Inv-loop μ-loop
@@ -75,8 +75,8 @@ loop-holds c =
     begins (a .text .now) (a .room) (entry t) (record { heads = c .before .before .start-heads .result; held = c .before .none-held .result; halt = a .halt })
     (c .onward .result) (c .before .before .start-heads .ensures) (c .before .none-held .ensures) (c .onward .ensures)
 
-line-at-requires : tie.Need-line-at-requires Inv-loop μ-loop
-line-at-requires c κs = search needs
+line-from-requires : tie.Need-line-from-requires Inv-loop μ-loop
+line-from-requires c κs = search needs
 
 sub-take-line : tie.Need-sub-take-line Inv-loop μ-loop
 sub-take-line c = let l = line-here (c .before .before .before .before .before .before .before .before .before) in omega (arith, l .starts, l .onward)
@@ -104,7 +104,7 @@ loop-again c =
     let a = started c .args in
     let h = headed c .loop in
     turn (a .text .now) (a .room) (entry (started c)) (target (started c)) (h .number) (h .at) (h .stage) (here (headed c))
-    (entered c .loop-test .taken) (started c .good .0 .0) (lined c .line-at .result) (line-here (lined c))
+    (entered c .loop-test .taken) (started c .good .0 .0) (lined c .line-from .result) (line-here (lined c))
     (took c .take-line .result) (left (took c)) (took c .take-line .ensures) (c .onward2 .result) (c .onward2 .ensures) (h .inv)
 
 same-length : tie.Need-same-length Inv-loop μ-loop
@@ -147,7 +147,7 @@ take-lines-spec =
     none-held-requires
     onward-requires
     loop-holds
-    line-at-requires
+    line-from-requires
     sub-take-line
     part-take-line-start
     part-take-line-end

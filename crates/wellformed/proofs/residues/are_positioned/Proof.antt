@@ -21,27 +21,30 @@ loop-holds c =
     let a = c .before .before .before .args in
     ap (standsFrom 0) (rest-all (standingIn (a .keys .now) (a .codes .now) (a .positions .now)) (a .n))
 
-position-at-requires : tie.Need-position-at-requires Inv-loop μ-loop
-position-at-requires c κs = search needs
+mul-key : tie.Need-mul-key Inv-loop μ-loop
+mul-key c = search needs
+
+shared-slice-read-key : tie.Need-shared-slice-read-key Inv-loop μ-loop
+shared-slice-read-key c = search needs
+
+shared-slice-read-code : tie.Need-shared-slice-read-code Inv-loop μ-loop
+shared-slice-read-code c = search needs
+
+add-position-between : tie.Need-add-position-between Inv-loop μ-loop
+add-position-between c = search needs
+
+position-between-requires : tie.Need-position-between-requires Inv-loop μ-loop
+position-between-requires c κs = search needs
 
 shared-slice-read-if1 : tie.Need-shared-slice-read-if1 Inv-loop μ-loop
 shared-slice-read-if1 c = search needs
 
 returns : tie.Need-returns Inv-loop μ-loop
 returns c =
-    let s = c .before .before .before .before .before .before .before .before in
+    let s = c .before .before .before .before .before .before .before .before .before .before in
     let a = s .args in
-    let l = c .before .before .before .before .loop in
-    sym (l .inv ∙ stands-fails (a .keys .now) (a .codes .now) (a .positions .now) (a .n) (l .met) (l .i) (c .before .before .before .loop-test .taken) (s .pre .0) (s .pre .1) (λ e. c .if1 .taken (e ∙ sym (c .before .before .position-at .ensures))))
-
-mul-met-with : tie.Need-mul-met-with Inv-loop μ-loop
-mul-met-with c = search needs
-
-shared-slice-read-met-with : tie.Need-shared-slice-read-met-with Inv-loop μ-loop
-shared-slice-read-met-with c = search needs
-
-shared-slice-read-met-with-2 : tie.Need-shared-slice-read-met-with-2 Inv-loop μ-loop
-shared-slice-read-met-with-2 c = search needs
+    let l = c .before .before .before .before .before .before .loop in
+    sym (l .inv ∙ stands-fails (a .keys .now) (a .codes .now) (a .positions .now) (a .n) (l .met) (l .i) (c .before .before .before .before .before .loop-test .taken) (s .pre .0) (s .pre .1) (λ e. c .if1 .taken (e ∙ sym (c .before .before .position-between .ensures))))
 
 met-with-requires : tie.Need-met-with-requires Inv-loop μ-loop
 met-with-requires c κs = search needs
@@ -57,7 +60,7 @@ loop-again c =
     let s = c .before .before .before .before .before .before .before .before .before .before .before in
     let a = s .args in
     let l = c .before .before .before .before .before .before .before .loop in
-    l .inv ∙ stands-on (a .keys .now) (a .codes .now) (a .positions .now) (a .n) (l .met) (l .i) (c .before .before .before .before .before .before .loop-test .taken) (s .pre .0) (s .pre .1) _ (c .met-with .ensures) (c .before .before .before .if1 .left ∙ c .before .before .before .before .before .position-at .ensures)
+    l .inv ∙ stands-on (a .keys .now) (a .codes .now) (a .positions .now) (a .n) (l .met) (l .i) (c .before .before .before .before .before .before .loop-test .taken) (s .pre .0) (s .pre .1) _ (c .met-with .ensures) (c .before .if1 .left ∙ c .before .before .before .position-between .ensures)
 
 returns-2 : tie.Need-returns-2 Inv-loop μ-loop
 returns-2 c =
@@ -72,12 +75,13 @@ are-positioned-spec =
     Inv-loop
     μ-loop
     loop-holds
-    position-at-requires
+    mul-key
+    shared-slice-read-key
+    shared-slice-read-code
+    add-position-between
+    position-between-requires
     shared-slice-read-if1
     returns
-    mul-met-with
-    shared-slice-read-met-with
-    shared-slice-read-met-with-2
     met-with-requires
     add-i
     loop-less

@@ -1,0 +1,23 @@
+-- The chain list, a list of chain records, and the names in it.
+use Prim.Native.Nat.{ℕ, min}
+use mathlib.Core.List.{List, _++_, map}
+use lib.ListN.{length, take, drop, replicate}
+use Rattle.chains.specs.declared.chain.Chain.{Chain}
+
+abbrev pub namesIn : List Chain → List ℕ
+namesIn chains = map (λ c. c .name) chains
+
+abbrev pub chainOf : ℕ → Chain
+chainOf name = record { name = name }
+
+-- the first n of a list, zeros where there are fewer
+unfoldable pub firstOf : ℕ → List ℕ → List ℕ
+firstOf n l = take n (l ++ replicate n 0)
+
+-- the first 4,096 names, over those that stood there
+unfoldable pub takenOver : List ℕ → List ℕ → List ℕ
+takenOver l names = take 4096 l ++ drop (length l) names
+
+-- the first so many records with these names
+unfoldable pub named : List Chain → List ℕ → ℕ → List Chain
+named chains names count = map chainOf (firstOf (min count (length chains)) names) ++ drop count chains

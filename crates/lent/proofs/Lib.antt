@@ -1,0 +1,6 @@
+pub mod ArrayOfNames
+pub mod FrontLaws
+pub mod ReadStored
+pub mod StoredIsHeld
+pub mod WithChains
+pub mod WriteTaken

@@ -1,0 +1,75 @@
+-- What is written from the names taken out of a chain list is what is written from the list: they are the list's first 4,096 names, and a model that is
+-- well formed has no more chains.
+use mathlib.Core.Path.{_≡_, refl, sym, ap, _∙_}
+use mathlib.Core.Bool.{Bool, true, false, _&&_, cond}
+use mathlib.Core.List.{List, [], _∷_, _++_}
+use Prim.Native.Nat.{ℕ, zero, suc, min, _≤_}
+use native.Mathlib.Nat.{suc-inj, suc-ne-zero}
+use native.Mathlib.Omega.{arith}
+use lib.Dec.{leb}
+use lib.ListN.{length, take, drop, length-take, length-map}
+use lib.Seq.{take-nil, take-take}
+use borrow.Author.Tests.{leb-true}
+use Rattle.model.specs.Lent.{Lent, roomOf, listFrom, residueIn, atomIn, modelIn}
+use Rattle.model.specs.Records.{Model}
+use Rattle.model.specs.WellFormed.{wellFormed, countsFit, wellFormedIn}
+use Rattle.model.specs.declared.room.Room.{Room}
+use Rattle.model.proofs.ListLaws.{left-of}
+use Rattle.writer.specs.Writing.{Writing, refused, writingOf, writeOf}
+use Rattle.writer.specs.declared.refusals.Refusal.the-variants.{NotWellFormed}
+use Rattle.chains.specs.declared.chain.Chain.{Chain}
+use Rattle.chains.specs.Names.{namesIn, takenOver}
+use Rattle.lent.proofs.WithChains.{withChains, same-room}
+
+-- ---- the names that are taken
+taken-first : (n : ℕ) (l names : List ℕ) → length names ≡ n → take (length l) (take n l ++ drop (length l) names) ≡ take n l
+taken-first n [] names e = sym (take-nil n)
+taken-first zero (x ∷ l) [] e = refl
+taken-first zero (x ∷ l) (y ∷ names) e = absurd (suc-ne-zero (length names) e)
+taken-first (suc n) (x ∷ l) [] e = absurd (suc-ne-zero n (sym e))
+taken-first (suc n) (x ∷ l) (y ∷ names) e = ap (λ (m : List ℕ). x ∷ m) (taken-first n l names (suc-inj e))
+
+-- ---- the first 4,096 chains are enough
+module _ (l : Lent) (names : List ℕ) (chains residues atoms size : ℕ) where
+  abbrev first : Lent
+  first = withChains l (take 4096 names)
+
+  abbrev whole : Lent
+  whole = withChains l names
+
+  same-fit : countsFit first chains residues atoms ≡ countsFit whole chains residues atoms
+  unfolding countsFit
+  same-fit =
+      ap (λ (room : Room). leb chains (room .chains) && leb residues (room .residues) && leb atoms (room .atoms))
+      (same-room l (take 4096 names) names (simp length-take (omega arith)))
+
+  few : countsFit whole chains residues atoms ≡ true → chains ≤ 4096
+  unfolding countsFit roomOf
+  few e =
+      let fits = leb chains (min 4096 (length names)) in
+      let h = leb-true chains (min 4096 (length names)) (left-of fits (leb residues (roomOf whole .residues)) (left-of (fits && leb residues (roomOf whole .residues)) (leb atoms (roomOf whole .atoms)) e)) in
+      omega arith
+
+  same-model : chains ≤ 4096 → modelIn first chains residues atoms ≡ modelIn whole chains residues atoms
+  unfolding modelIn
+  same-model h =
+      λ i. record { chains = take-take chains 4096 names h i; residues = listFrom (residueIn l) 0 residues; atoms = listFrom (atomIn l) 0 atoms }
+
+  abbrev written : Bool → Model → Writing
+  written fit m = cond (fit && wellFormed m) (writingOf size m) (refused NotWellFormed)
+
+  same-written : writeOf first chains residues atoms size ≡ writeOf whole chains residues atoms size
+  unfolding writeOf wellFormedIn
+  same-written = ap (λ (fit : Bool). written fit (modelIn first chains residues atoms)) same-fit ∙ go (countsFit whole chains residues atoms) few
+    where
+      go : (fit : Bool) → (fit ≡ true → chains ≤ 4096) → written fit (modelIn first chains residues atoms) ≡ written fit (modelIn whole chains residues atoms)
+      go true h = ap (written true) (same-model (h refl))
+      go false h = refl
+
+pub write-taken : (ys : List Chain) (names : List ℕ) (l : Lent) (chains residues atoms size : ℕ) → length names ≡ 4096
+    → writeOf (withChains l (take (length ys) (takenOver (namesIn ys) names))) chains residues atoms size ≡ writeOf (withChains l (namesIn ys)) chains residues atoms size
+unfolding takenOver
+write-taken ys names l chains residues atoms size long =
+    ap (λ (x : List ℕ). writeOf (withChains l x) chains residues atoms size)
+    (ap (λ (n : ℕ). take n (takenOver (namesIn ys) names)) (sym (length-map ys (λ c. c .name))) ∙ taken-first 4096 (namesIn ys) names long)
+    ∙ same-written l (namesIn ys) chains residues atoms size

@@ -1,0 +1,4 @@
+pub mod OwnRoom
+pub mod ServedFits
+pub mod ServingLaws
+pub mod WrittenAsRead

@@ -1,0 +1,93 @@
+-- Text in, text out: a text is read, and the model that it gives is written. What is read is well formed, so that refusal 12 is never given.
+use mathlib.Core.Path.{_≡_}
+use mathlib.Core.List.{List}
+use Prim.Native.Nat.{ℕ}
+use lib.ListN.{length}
+use lib.Seq.{sets}
+use Rattle.building.specs.declared.sites.Counts.{Counts}
+use Rattle.model.specs.Lent.{Lent, roomOf, holding, emptyModel}
+use Rattle.model.specs.Records.{Model}
+use Rattle.model.specs.declared.room.Room.{Room}
+use Rattle.reader.specs.Reading as reader
+use Rattle.reader.specs.Reading.{Reading, read, readOf}
+use Rattle.taking.specs.Refusals as unread
+use Rattle.writer.specs.Refusals as unwritten
+use Rattle.writer.specs.Writing as writer
+use Rattle.writer.specs.Writing.{Writing, written, writingOf, writeOf}
+use Rattle.serving.specs.declared.answers.Answer.{Answer}
+use Rattle.serving.specs.declared.refusals.Refusal.{Refusal}
+use Rattle.serving.specs.declared.refusals.Refusal.the-variants.{Unread, Unwritten}
+
+pub data Serving : Type 0 where
+  served : List ℕ → Model → Counts → Serving
+  refused : Refusal → Serving
+
+abbrev pub byWriting : Model → Counts → Writing → Serving
+byWriting m counts (written text) = served text m counts
+byWriting m counts (writer.refused why) = refused (Unwritten why)
+
+abbrev pub byReading : ℕ → Reading → Serving
+byReading size (read m counts) = byWriting m counts (writingOf size m)
+byReading size (reader.refused why) = refused (Unread why)
+
+-- a text, in so much room, into a buffer of so many bytes
+unfoldable pub serveOf : Room → ℕ → List ℕ → Serving
+serveOf room size text = byReading size (readOf room text)
+
+-- ---- what is answered, and what is left in the records and in the buffer
+
+abbrev pub answerOf : Serving → Answer
+answerOf (served text m counts) = Answer.Served (length text) counts
+answerOf (refused why) = Answer.Refused why
+
+-- on any refusal every record is zero
+abbrev pub leftIn : Lent → Serving → Lent
+leftIn l (served text m counts) = holding l m
+leftIn l (refused why) = holding l emptyModel
+
+-- and every byte stays
+abbrev pub writtenTo : List ℕ → Serving → List ℕ
+writtenTo out (served text m counts) = sets out 0 text
+writtenTo out (refused why) = out
+
+pub record Serves (l : Lent) (text out : List ℕ) (answer : Answer) (after : Lent) (bytes : List ℕ) : Type 0 where
+  pub answered : answer ≡ answerOf (serveOf (roomOf l) (length out) text)
+  pub left : after ≡ leftIn l (serveOf (roomOf l) (length out) text)
+  pub written : bytes ≡ writtenTo out (serveOf (roomOf l) (length out) text)
+
+-- "Both have 64 chains, 512 residues, 1,024 atoms."
+abbrev pub ownRoom : Room
+ownRoom = record { chains = 64; residues = 512; atoms = 1024 }
+
+pub record ServesOwn (text out : List ℕ) (answer : Answer) (bytes : List ℕ) : Type 0 where
+  pub answered : answer ≡ answerOf (serveOf ownRoom (length out) text)
+  pub written : bytes ≡ writtenTo out (serveOf ownRoom (length out) text)
+
+-- ---- the second half: what records hold is written
+
+abbrev pub writtenAnswer : Counts → Writing → Answer
+writtenAnswer counts (written text) = Answer.Served (length text) counts
+writtenAnswer counts (writer.refused why) = Answer.Refused (Unwritten why)
+
+abbrev pub leftWritten : Lent → Writing → Lent
+leftWritten l (written text) = l
+leftWritten l (writer.refused why) = holding l emptyModel
+
+pub record WritesOut (l : Lent) (counts : Counts) (out : List ℕ) (answer : Answer) (after : Lent) (bytes : List ℕ) : Type 0 where
+  pub answered : answer ≡ writtenAnswer counts (writeOf l (counts .chains) (counts .residues) (counts .atoms) (length out))
+  pub left : after ≡ leftWritten l (writeOf l (counts .chains) (counts .residues) (counts .atoms) (length out))
+  pub written : bytes ≡ writer.leftBy out (writeOf l (counts .chains) (counts .residues) (counts .atoms) (length out))
+
+-- ---- document 01's number, line and detail
+
+abbrev pub numberOf : Refusal → ℕ
+numberOf (Unread why) = unread.numberOf why
+numberOf (Unwritten why) = unwritten.numberOf why
+
+abbrev pub lineOf : Refusal → ℕ
+lineOf (Unread why) = unread.lineOf why
+lineOf (Unwritten why) = 0
+
+abbrev pub detailOf : Refusal → ℕ
+detailOf (Unread why) = unread.detailOf why
+detailOf (Unwritten why) = unwritten.detailOf why

@@ -1,0 +1,6 @@
+pub mod Asked
+pub mod GivenUp
+pub mod LentLocal
+pub mod LentOn
+pub mod LetGo
+pub mod Returned
