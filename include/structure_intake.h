@@ -74,7 +74,8 @@ enum structure_intake_result {
     STRUCTURE_INTAKE_RESULT_BYTES = 28
 };
 
-/* Takes in a text of at most 64 chains, 512 residues and 1,024 atoms; its records are its own, on the stack.
+/* Takes in a text of at most 64 chains, 512 residues and 1,024 atoms; its records are its own, on the stack, of which it
+ * takes 72 KB on x86-64.
  *
  * After 0 the first bytes of `out`, as many as the result says, are the text written. All other bytes of `out` stay as
  * they were; after a refusal all of them do. */
@@ -89,7 +90,7 @@ struct structure_intake_chain {
 
 /* The same with the caller's records: the chain list a slice of chain records, all other records one slice to a field. There is room for as many chains, residues and atoms as the
  * shortest slice of each kind has entries, and for at most 4,096, 65,536 and 1,048,576 of them. What the slices hold
- * beforehand does not matter.
+ * beforehand does not matter. It takes 43 KB of the stack, most of them for the names of the chains.
  *
  * After 0 the first records of each kind are the model: chains in the order in which they are first met; residues by
  * chain, sequence and insertion code, none first; atoms by residue and name. Every record past the model is zero, in all

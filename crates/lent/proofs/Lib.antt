@@ -1,5 +1,7 @@
 pub mod ArrayOfNames
 pub mod FrontLaws
+pub mod LentAs
+pub mod NamesStored
 pub mod ReadStored
 pub mod StoredIsHeld
 pub mod WithChains

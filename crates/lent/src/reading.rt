@@ -10,7 +10,7 @@ ghost use Rattle.chains.specs.Names.{namesIn};
 ghost use Rattle.model.specs.Lent.{lentOf};
 ghost use Rattle.reader.specs.Closing.{ReadBy};
 
-// The names as long as the chain list is.
+// The reading by names, in the first so many.
 fn read_first(
     text: &[u8],
     names: &mut [u64],
@@ -46,7 +46,7 @@ fn read_first(
     )
 }
 
-// The reading by names, for a chain list of so many records.
+// The same in an array of 4,096: of a longer chain list a model uses no more records.
 fn read_into(
     text: &[u8],
     names: &mut Names,
@@ -83,6 +83,7 @@ fn read_into(
     )
 }
 
+// While the text is read the names of the chains stand in an array, in which they are looked for; then they go into the records.
 pub fn read(
     text: &[u8],
     chains: &mut [Chain],

@@ -9,7 +9,7 @@ ghost use Rattle.chains.specs.Names.{namesIn};
 ghost use Rattle.model.specs.Lent.{lentOf};
 ghost use Rattle.writer.specs.Writing.{writeOf, Wrote};
 
-// The writing by names, for a chain list of so many records.
+// The writing by names, for a chain list of so many records: of a longer one a model uses the first 4,096.
 fn write_from(
     names: &Names,
     size: usize,
@@ -51,6 +51,7 @@ fn write_from(
     )
 }
 
+// The names are taken out of the chain records, and written from there.
 pub fn write_structure(
     chains: &[Chain],
     residue_keys: &[u64],

@@ -28,7 +28,7 @@ fn renewed(result_size: usize, size: usize) -> usize
     0
 }
 
-// The names as long as the chain list is.
+// The call by names, in the first so many.
 fn call_first(
     text: &[u8],
     out: &mut [u8],
@@ -72,7 +72,7 @@ fn call_first(
     status_of(answer)
 }
 
-// The call by names, for a chain list of so many records.
+// The same in an array of 4,096: of a longer chain list a model uses no more records.
 fn call_into(
     text: &[u8],
     out: &mut [u8],
@@ -114,7 +114,7 @@ fn call_into(
 }
 
 // The service in the caller's records: the room is by the shortest slice of each kind. After 0 they hold the model, after 26 all is as it was,
-// and after any other refusal every record is zero.
+// and after any other refusal every record is zero. The chain records are written last, from an array of names.
 #[no_mangle]
 pub extern "C" fn structure_intake_lent(
     text: &[u8],

@@ -16,6 +16,7 @@ use types.Kit.{Given, Item, ‵, nth, put, Post, runs, Step, step, _$_}
 use types.Run.{Walks, Reads, look, init, stop, hop, fld, from, load, addr, and-then, no-more, assigns}
 use types.Part.{Part, agg, whole, sub, look-in}
 use denote.Slice.{sliceTy, sliceVal}
+use Rattle.walks.proofs.Typed.{typed}
 
 module _ {M : Type 1} {𝓤 : URA M} {H : Heap 𝓤} {A : Atoms 𝓤} (K : Type 0) (W : Given 𝓤 H A) (Γ : List (Item 𝓤)) (n : ℕ) (ℓ : Lifetime) (μ : Mutability) (τ : Ty) (b p o l : ℕ) where
   abbrev Cell : Item 𝓤
@@ -46,7 +47,7 @@ module _ {M : Type 1} {𝓤 : URA M} {H : Heap 𝓤} {A : Atoms 𝓤} {K : Type 
       (from t (subst (Walks K W Γ E (spotOf 𝓤 H E x) []) (at .1) (stop t))) (init t m (cells .1) (tt, tt)) $
       assigns t (agg t (and-then t (load t (from t (subst (Walks K W Γ₁ E (spotOf 𝓤 H E x) []) (at .1) (stop t))) (look t m (cells .3)))
       (and-then t (load t (from t (subst (λ (sp : Spot 𝓤 H). Walks K W Γ₁ E sp (field 1 ∷ []) (tyInt w64, b, 8)) (sym (at .0)) (fld t refl (stop t)))) (count K W Γ₁ n ℓ μ τ b p o l t (cells .2))) (no-more t))))
-      (from t (subst (Walks K W Γ₁ E (spotOf 𝓤 H E y) []) (at .2) (stop t))) (init t k (cells .4) (tt, (tt, (record { fits = fits }, tt)))) $ s)
+      (from t (subst (Walks K W Γ₁ E (spotOf 𝓤 H E y) []) (at .2) (stop t))) (init t k (cells .4) (typed fits)) $ s)
     where
       Γ₁ : List (Item 𝓤)
       Γ₁ = put 𝓤 H A m (‵ (fat fullShare (tyRef ℓ₁ μ₁ τ₁) b₁ zero (vptr p o))) Γ

@@ -1,6 +1,10 @@
 pub mod Asked
 pub mod GivenUp
+pub mod Handed
 pub mod LentLocal
 pub mod LentOn
 pub mod LetGo
 pub mod Returned
+pub mod SliceCount
+pub mod SliceTells
+pub mod Typed
