@@ -1,5 +1,5 @@
 // The names of a chain list, taken out of its records and stored into them. The borrow checker covers no function over a slice of
-// structs, so `take_names` and `store_names` are proved by hand; every other function of the intake works over the names.
+// structs, so `take_names` and `store_names` are proved by hand; the reader and the writer work over the names.
 use crate::chain::Chain;
 use records::smaller;
 ghost use mathlib.Core.Path.{_≡_};

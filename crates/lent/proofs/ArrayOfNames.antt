@@ -1,4 +1,4 @@
--- The array of names that a walk keeps in a local: its type, a reference to it, and the call of `no_names` that makes it.
+-- The array of names that a walk keeps in a local: a reference to it, and the call of `no_names` that makes it.
 --     NoNames, to-none     the contract of `no_names`, and what its triple binds outside.        goes-none    it asks nothing.        gives-none   it gives some names
 --     makes-names          the call as a step: the names are 4,096, and their machine value has its MIR type
 -- Assumes `Given`.
@@ -20,9 +20,8 @@ use contract.Monad.{Fun}
 use sound.WpLaws.{FmC}
 use types.Kit.{Given, Item, Post, Seq, runs, lands, ‵, raw, some, later, _$_, _∵_, !, qed, keep, use0, use1, pick, join, frame, await, updating, now as at-once, show, done}
 use types.Run.{no-more}
-use denote.RattleType.{RattleType}
 use denote.Builtin.{u64}
-use denote.Array.{Array, array-lawful}
+use denote.Array.{array-lawful}
 use denote.Laws.{Is, shows}
 use denote.Plain.{uint-lawful}
 use denote.Ref.{RefT}
@@ -31,11 +30,9 @@ use denote.Triple.Call.{calls-at}
 use denote.Triple.Spec.{tripleOf}
 use denote.Triple.Statement.{Contract, Triple}
 use Rattle.walks.proofs.Returned.{Returned, told}
+use Rattle.chains.proofs.NamesInMemory.{Names}
 use Rattle.chains.proofs.no_names as no-names
 use Rattle.chains.proofs.no_names.Symbol.{name as #no-names}
-
-abbrev pub Names : RattleType
-Names = Array u64 4096
 
 -- the reference to the local at l, under γ
 abbrev pub to-names : ℕ → GName → List ℕ → RefT (List ℕ)

@@ -33,10 +33,11 @@ use denote.Triple.Spec.{tripleOf}
 use denote.Triple.Statement.{Contract, Triple}
 use Rattle.chains.specs.Names.{named as stored}
 use Rattle.chains.specs.declared.chain.Chain.{Chain}
+use Rattle.chains.proofs.NamesInMemory.{Names}
 use Rattle.chains.proofs.chain.Chain as Row
 use Rattle.chains.proofs.store_names as store-names
 use Rattle.chains.proofs.store_names.Symbol.{name as #store-names}
-use Rattle.lent.proofs.ArrayOfNames.{Names, to-names}
+use Rattle.lent.proofs.ArrayOfNames.{to-names}
 use Rattle.walks.proofs.Asked.{counted}
 use Rattle.walks.proofs.Returned.{Returned, told}
 

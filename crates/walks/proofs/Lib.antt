@@ -1,4 +1,6 @@
+pub mod Answered
 pub mod Asked
+pub mod CountedLoop
 pub mod GivenUp
 pub mod Handed
 pub mod LentLocal

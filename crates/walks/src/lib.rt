@@ -1,1 +1,2 @@
-// Steps of a walk by hand, over the toolchain's own: for functions that pass slices on, and lend a local array, which the borrow checker does not cover. Laws alone.
+// Steps of proofs by hand, over the toolchain's own: for functions over a slice of structs or a struct that holds a slice, which the borrow checker does not
+// cover. Laws alone.

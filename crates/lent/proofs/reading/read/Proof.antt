@@ -45,8 +45,9 @@ use Rattle.reader.proofs.answers.Answer as T
 use Rattle.reader.proofs.answers.Answer.Laws as T′
 use Rattle.chains.specs.Names.{namesIn, named as stored}
 use Rattle.chains.specs.declared.chain.Chain.{Chain}
+use Rattle.chains.proofs.NamesInMemory.{Names}
 use Rattle.chains.proofs.chain.Chain as Row
-use Rattle.lent.proofs.ArrayOfNames.{Names, to-names, NoNames, makes-names}
+use Rattle.lent.proofs.ArrayOfNames.{to-names, NoNames, makes-names}
 use Rattle.lent.proofs.LentAs.{slices-now, slices-last}
 use Rattle.lent.proofs.NamesStored.{chains-own, chains-left, StoreNames, stores-names}
 use Rattle.lent.proofs.ReadStored.{read-stored}

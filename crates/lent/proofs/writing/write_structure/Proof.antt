@@ -45,8 +45,9 @@ use Rattle.writer.proofs.answers.Answer as T
 use Rattle.writer.proofs.answers.Answer.Laws as T′
 use Rattle.chains.specs.Names.{namesIn, takenOver}
 use Rattle.chains.specs.declared.chain.Chain.{Chain}
+use Rattle.chains.proofs.NamesInMemory.{Names}
 use Rattle.chains.proofs.chain.Chain as Row
-use Rattle.lent.proofs.ArrayOfNames.{Names, to-names, NoNames, makes-names}
+use Rattle.lent.proofs.ArrayOfNames.{to-names, NoNames, makes-names}
 use Rattle.lent.proofs.LentAs.{slices-now}
 use Rattle.lent.proofs.WriteTaken.{write-taken}
 use Rattle.walks.proofs.Asked.{counted}

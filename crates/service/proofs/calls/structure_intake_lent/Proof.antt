@@ -42,10 +42,11 @@ use denote.Signature.{Slot, typesAt}
 use Rattle.model.specs.Lent.{Lent}
 use Rattle.chains.specs.Names.{namesIn, named as stored}
 use Rattle.chains.specs.declared.chain.Chain.{Chain}
+use Rattle.chains.proofs.NamesInMemory.{Names}
 use Rattle.chains.proofs.chain.Chain as Row
 use Rattle.service.specs.Results.{renewedIn, Calls as Called}
 use Rattle.service.proofs.CallStored.{call-stored}
-use Rattle.lent.proofs.ArrayOfNames.{Names, to-names, NoNames, makes-names}
+use Rattle.lent.proofs.ArrayOfNames.{to-names, NoNames, makes-names}
 use Rattle.lent.proofs.LentAs.{slices-now, slices-last}
 use Rattle.lent.proofs.NamesStored.{chains-own, chains-left, StoreNames, stores-names}
 use Rattle.walks.proofs.Asked.{counted}
