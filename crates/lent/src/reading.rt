@@ -10,7 +10,7 @@ ghost use Rattle.chains.specs.Names.{namesIn};
 ghost use Rattle.model.specs.Lent.{lentOf};
 ghost use Rattle.reader.specs.Closing.{ReadBy};
 
-// The reading by names, in the first so many.
+// The reading by names, in the first so many. The names come as a slice: the borrow checker covers a part of one, and no part of a lent array.
 fn read_first(
     text: &[u8],
     names: &mut [u64],
