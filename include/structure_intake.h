@@ -88,9 +88,10 @@ struct structure_intake_chain {
     uint64_t name;
 };
 
-/* The same with the caller's records: the chain list a slice of chain records, all other records one slice to a field. There is room for as many chains, residues and atoms as the
- * shortest slice of each kind has entries, and for at most 4,096, 65,536 and 1,048,576 of them. What the slices hold
- * beforehand does not matter. It takes 43 KB of the stack, most of them for the names of the chains.
+/* The same with the caller's records: a slice of chain records, and for residues and atoms one slice to a field. There is
+ * room for as many chains, residues and atoms as the shortest slice of each kind has entries, and for at most 4,096,
+ * 65,536 and 1,048,576 of them. What the slices hold beforehand does not matter. It takes 43 KB of the stack on x86-64,
+ * most of them for the names of the chains.
  *
  * After 0 the first records of each kind are the model: chains in the order in which they are first met; residues by
  * chain, sequence and insertion code, none first; atoms by residue and name. Every record past the model is zero, in all
@@ -98,7 +99,7 @@ struct structure_intake_chain {
  * a refusal every record is zero. After 26 the records too are as they were.
  *
  *  slice               entry       holds
- *  chains              a chain     its name, packed
+ *  chains              a record    the chain's name, packed
  *  residue_keys        uint64_t    chain's place from 0 * 2^40 + (sequence + 2^31) * 2^8 + insertion code, 0 for none
  *  residue_names       uint64_t    the residue's name, packed: the canonical one for a standard residue
  *  residue_codes       uint8_t     the standard residue, 0 for none, from 1 on: ALA ARG ASN ASP CYS GLN GLU GLY HIS ILE

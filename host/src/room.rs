@@ -61,9 +61,8 @@ impl Room {
 
     /// The chains, in the order in which the text first names them.
     pub fn chains(&self) -> impl ExactSizeIterator<Item = Chain> {
-        let chains = &self.records.chains;
-        let filled = &chains[..chains.partition_point(|chain| chain.name != 0)];
-        filled.iter().map(|chain| Chain {
+        let chains = filled(&self.records.chains, |chain| chain.name).iter();
+        chains.map(|chain| Chain {
             name: Name::of_packed(chain.name),
         })
     }
@@ -71,7 +70,9 @@ impl Room {
     /// The residues, by chain, sequence and insertion code.
     pub fn residues(&self) -> impl ExactSizeIterator<Item = Residue> {
         let records = &self.records;
-        let names = filled(&records.residue_names).iter().enumerate();
+        let names = filled(&records.residue_names, |&name| name)
+            .iter()
+            .enumerate();
         names.map(|(place, &name)| Residue {
             key: Key::of_packed(records.residue_keys[place]),
             name: Name::of_packed(name),
@@ -84,7 +85,7 @@ impl Room {
     /// The atoms, by residue and name.
     pub fn atoms(&self) -> impl ExactSizeIterator<Item = Atom> {
         let records = &self.records;
-        let names = filled(&records.atom_names).iter().enumerate();
+        let names = filled(&records.atom_names, |&name| name).iter().enumerate();
         names.map(|(place, &name)| Atom {
             residue: Key::of_packed(records.atom_keys[place]),
             name: Name::of_packed(name),
@@ -95,7 +96,7 @@ impl Room {
     }
 }
 
-/// The names of the model, which are none of them zero; all past it are.
-fn filled(names: &[u64]) -> &[u64] {
-    &names[..names.partition_point(|&name| name != 0)]
+/// The records of the model, of which no name is zero; all past it are.
+fn filled<T>(records: &[T], name: impl Fn(&T) -> u64) -> &[T] {
+    &records[..records.partition_point(|record| name(record) != 0)]
 }
