@@ -3,7 +3,10 @@ use mathlib.Core.Path.{_≡_}
 use mathlib.Core.List.{List, map}
 use Prim.Native.Nat.{ℕ, _≤_}
 use lib.Ieee.{Float}
+use denote.Ref.{now}
+use denote.Triple.Both.{Both}
 use lib.ListN.{length, take}
+use Rattle.records.specs.Slice.{Slice, held}
 use Rattle.model.specs.Fold.{Residue, Atom, State}
 use Rattle.model.specs.Finished.{keyPart, namePart}
 use Rattle.model.specs.Lent.{Lent, coordinates}
@@ -39,10 +42,24 @@ recordsOf chains residueKeys residueNames residueMarks atomKeys atomNames elemen
   occupancies = occupancies;
 }
 
+-- those of a function's parameters, at its entry and at its exit, with the names of the chains at both
+abbrev pub recordsBy : Both (List ℕ) (List ℕ) → Slice ℕ → Slice ℕ → Slice ℕ → Slice ℕ → Slice ℕ → Slice ℕ → Slice (List Float) → Slice Float → Both Records Records
+recordsBy chains residueKeys residueNames residueMarks atomKeys atomNames elements positions occupancies = record {
+  entry = recordsOf (chains .entry) (now (residueKeys .entry)) (now (residueNames .entry)) (now (residueMarks .entry)) (now (atomKeys .entry)) (now (atomNames .entry)) (now (elements .entry)) (now (positions .entry)) (now (occupancies .entry));
+  exit = recordsOf (chains .exit) (now (residueKeys .exit)) (now (residueNames .exit)) (now (residueMarks .exit)) (now (atomKeys .exit)) (now (atomNames .exit)) (now (elements .exit)) (now (positions .exit)) (now (occupancies .exit));
+}
+
+abbrev pub records : Slice ℕ → Slice ℕ → Slice ℕ → Slice ℕ → Slice ℕ → Slice ℕ → Slice ℕ → Slice (List Float) → Slice Float → Both Records Records
+records chains = recordsBy (held chains)
+
 -- the records of the lent slices; while rows are read the HETATM marks stand where the categories will
 abbrev pub recordsIn : Lent → Records
 recordsIn l =
     recordsOf (l .chains) (l .residueKeys) (l .residueNames) (l .residueCategories) (l .atomKeys) (l .atomNames) (l .elements) (l .positions) (l .occupancies)
+
+-- how many records the counts tell of
+abbrev pub sizesOf : Counts → Room
+sizesOf c = record { chains = c .chains; residues = c .residues; atoms = c .atoms }
 
 -- the room is within the sizes of document 01, and every slice has it
 pub record Within (room : Room) (r : Records) : Type 0 where

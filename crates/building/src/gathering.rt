@@ -5,7 +5,7 @@ use crate::held::rest;
 use crate::residues::gather_residues;
 ghost use mathlib.Core.List.{List};
 ghost use Prim.Native.Nat.{ℕ};
-ghost use Rattle.building.specs.Holds.{recordsOf};
+ghost use Rattle.building.specs.Holds.{recordsBy};
 ghost use Rattle.building.specs.Gaps.{Gathers};
 
 // The chains have no gap.
@@ -20,8 +20,9 @@ pub fn gather(
     occupancies: &mut [f64],
     held: Held,
 )
-    ensures { λ _. ⌜ ((chains : List ℕ) → Gathers (recordsOf chains (now («residue_keys» .entry)) (now («residue_names» .entry)) (now («residue_marks» .entry)) (now («atom_keys» .entry)) (now («atom_names» .entry)) (now (elements .entry)) (now (positions .entry)) (now (occupancies .entry))) held
-        (recordsOf chains (now («residue_keys» .exit)) (now («residue_names» .exit)) (now («residue_marks» .exit)) (now («atom_keys» .exit)) (now («atom_names» .exit)) (now (elements .exit)) (now (positions .exit)) (now (occupancies .exit)))) ⌝ }
+    ensures { λ _. ⌜ ((chains : List ℕ) →
+        let l = recordsBy (record { entry = chains; exit = chains }) «residue_keys» «residue_names» «residue_marks» «atom_keys» «atom_names» elements positions occupancies in
+        Gathers (l .entry) held (l .exit)) ⌝ }
 {
     let counts = held.counts;
     let behind = held.behind;

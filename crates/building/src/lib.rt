@@ -13,4 +13,5 @@ pub use held::Held;
 pub use sites::Counts;
 pub use sites::Put;
 pub use sites::put_site;
+pub use sites::sizes_of;
 pub use sites::skip_row;

@@ -15,7 +15,7 @@ ghost use Prim.Native.Nat.{_≤_};
 ghost use Rattle.model.specs.Keys.{residueKey};
 ghost use Rattle.model.specs.Lists.{count};
 ghost use Rattle.model.specs.Lent.{coordinates};
-ghost use Rattle.building.specs.Holds.{recordsOf};
+ghost use Rattle.building.specs.Holds.{records, sizesOf};
 ghost use Rattle.building.specs.Sites.{PlacesFound, lackOf, Placed, oneMore, heldWith, withSkipped, Did};
 
 pub struct Counts {
@@ -26,6 +26,17 @@ pub struct Counts {
     pub skipped: usize,
     pub outdone: usize,
     pub assumed: usize,
+}
+
+// How many records of each kind.
+pub fn sizes_of(counts: Counts) -> Room
+    ensures { λ r. ⌜ r ≡ sizesOf counts ⌝ }
+{
+    Room {
+        chains: counts.chains,
+        residues: counts.residues,
+        atoms: counts.atoms,
+    }
 }
 
 pub enum Put {
@@ -184,8 +195,8 @@ fn store_site(
     places: Places,
     site: Site,
 )
-    ensures { λ _. ⌜ Placed (recordsOf (now (chains .entry)) (now («residue_keys» .entry)) (now («residue_names» .entry)) (now («residue_marks» .entry)) (now («atom_keys» .entry)) (now («atom_names» .entry)) (now (elements .entry)) (now (positions .entry)) (now (occupancies .entry))) held places site
-        (recordsOf (now (chains .exit)) (now («residue_keys» .exit)) (now («residue_names» .exit)) (now («residue_marks» .exit)) (now («atom_keys» .exit)) (now («atom_names» .exit)) (now (elements .exit)) (now (positions .exit)) (now (occupancies .exit))) ⌝ }
+    ensures { λ _. ⌜ (let l = records chains «residue_keys» «residue_names» «residue_marks» «atom_keys» «atom_names» elements positions occupancies in
+        Placed (l .entry) held places site (l .exit)) ⌝ }
 {
     let counts = held.counts;
     let behind = held.behind;
@@ -239,8 +250,8 @@ pub fn put_site(
     held: Held,
     site: Site,
 ) -> Put
-    ensures { λ r. ⌜ Did (recordsOf (now (chains .entry)) (now («residue_keys» .entry)) (now («residue_names» .entry)) (now («residue_marks» .entry)) (now («atom_keys» .entry)) (now («atom_names» .entry)) (now (elements .entry)) (now (positions .entry)) (now (occupancies .entry))) room held site r
-        (recordsOf (now (chains .exit)) (now («residue_keys» .exit)) (now («residue_names» .exit)) (now («residue_marks» .exit)) (now («atom_keys» .exit)) (now («atom_names» .exit)) (now (elements .exit)) (now (positions .exit)) (now (occupancies .exit))) ⌝ }
+    ensures { λ r. ⌜ (let l = records chains «residue_keys» «residue_names» «residue_marks» «atom_keys» «atom_names» elements positions occupancies in
+        Did (l .entry) room held site r (l .exit)) ⌝ }
 {
     let places = places_of(chains, residue_keys, atom_keys, atom_names, held, site);
     let counts = held.counts;

@@ -2,10 +2,20 @@
 use Prim.Native.Nat.{ℕ, min}
 use mathlib.Core.List.{List, _++_, map}
 use lib.ListN.{length, take, drop, replicate}
+use denote.Ref.{now}
+use denote.Triple.Both.{Both}
+use Rattle.records.specs.Slice.{Slice}
 use Rattle.chains.specs.declared.chain.Chain.{Chain}
 
 abbrev pub namesIn : List Chain → List ℕ
 namesIn chains = map (λ c. c .name) chains
+
+-- those of a lent slice, and the first so many of a lent array, at a function's entry and at its exit
+abbrev pub namesAt : Slice Chain → Both (List ℕ) (List ℕ)
+namesAt chains = record { entry = namesIn (now (chains .entry)); exit = namesIn (now (chains .exit)) }
+
+abbrev pub firstAt : ℕ → Slice ℕ → Both (List ℕ) (List ℕ)
+firstAt size names = record { entry = take size (now (names .entry)); exit = take size (now (names .exit)) }
 
 abbrev pub chainOf : ℕ → Chain
 chainOf name = record { name = name }

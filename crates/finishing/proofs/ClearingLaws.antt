@@ -6,7 +6,8 @@ use lib.Ieee.{Float}
 use lib.ListN.{length, take, replicate}
 use Rattle.records.specs.Clearing.{cleared, zeroFloat, zeroPoint}
 use Rattle.model.specs.Lent.{Lent, lentOf, padded, holding, emptyModel}
-use Rattle.finishing.specs.Clearing.{clearedFrom}
+use Rattle.model.specs.declared.room.Room.{Room}
+use Rattle.finishing.specs.Clearing.{clearedFrom, noRecords}
 
 module _ {A : Type 0} (z : A) where
   pub cleared-padded : (n k : ℕ) (l m : List A) → take n l ≡ m → n ≡ length m → length l ≡ k → cleared z n l ≡ padded z k m
@@ -17,16 +18,16 @@ module _ {A : Type 0} (z : A) where
   cleared-whole k l h = cleared-padded 0 k l [] refl refl h
 
 -- one equation to a slice
-pub slices-cleared : (l : Lent) (chains residues atoms : ℕ) {chainNames residueKeys residueNames residueCodes residueCategories residuePositions : List ℕ}
+pub slices-cleared : (l : Lent) (kept : Room) {chains residueKeys residueNames residueCodes residueCategories residuePositions : List ℕ}
     {atomKeys atomNames elements : List ℕ} {positions : List (List Float)} {occupancies : List Float}
-    → chainNames ≡ cleared 0 chains (l .chains) → residueKeys ≡ cleared 0 residues (l .residueKeys) → residueNames ≡ cleared 0 residues (l .residueNames)
-    → residueCodes ≡ cleared 0 residues (l .residueCodes) → residueCategories ≡ cleared 0 residues (l .residueCategories)
-    → residuePositions ≡ cleared 0 residues (l .residuePositions) → atomKeys ≡ cleared 0 atoms (l .atomKeys) → atomNames ≡ cleared 0 atoms (l .atomNames)
-    → elements ≡ cleared 0 atoms (l .elements) → positions ≡ cleared zeroPoint atoms (l .positions) → occupancies ≡ cleared zeroFloat atoms (l .occupancies)
-    → lentOf chainNames residueKeys residueNames residueCodes residueCategories residuePositions atomKeys atomNames elements positions occupancies
-    ≡ clearedFrom l chains residues atoms
+    → chains ≡ cleared 0 (kept .chains) (l .chains) → residueKeys ≡ cleared 0 (kept .residues) (l .residueKeys) → residueNames ≡ cleared 0 (kept .residues) (l .residueNames)
+    → residueCodes ≡ cleared 0 (kept .residues) (l .residueCodes) → residueCategories ≡ cleared 0 (kept .residues) (l .residueCategories)
+    → residuePositions ≡ cleared 0 (kept .residues) (l .residuePositions) → atomKeys ≡ cleared 0 (kept .atoms) (l .atomKeys) → atomNames ≡ cleared 0 (kept .atoms) (l .atomNames)
+    → elements ≡ cleared 0 (kept .atoms) (l .elements) → positions ≡ cleared zeroPoint (kept .atoms) (l .positions) → occupancies ≡ cleared zeroFloat (kept .atoms) (l .occupancies)
+    → lentOf chains residueKeys residueNames residueCodes residueCategories residuePositions atomKeys atomNames elements positions occupancies
+    ≡ clearedFrom l kept
 unfolding clearedFrom
-slices-cleared l chains residues atoms e0 e1 e2 e3 e4 e5 e6 e7 e8 e9 e10 =
+slices-cleared l kept e0 e1 e2 e3 e4 e5 e6 e7 e8 e9 e10 =
     λ i. lentOf (e0 i) (e1 i) (e2 i) (e3 i) (e4 i) (e5 i) (e6 i) (e7 i) (e8 i) (e9 i) (e10 i)
 
 -- the slices of two, one as long as the other
@@ -44,7 +45,7 @@ pub record AsLong (l k : Lent) : Type 0 where
   pub occupancies : length (l .occupancies) ≡ length (k .occupancies)
 
 -- all of them cleared hold the empty model
-pub cleared-as-long : (l k : Lent) → AsLong l k → clearedFrom l 0 0 0 ≡ holding k emptyModel
+pub cleared-as-long : (l k : Lent) → AsLong l k → clearedFrom l noRecords ≡ holding k emptyModel
 unfolding clearedFrom holding
 cleared-as-long l k h = λ i. record {
   chains = cleared-whole 0 _ (l .chains) (h .chains) i;
@@ -60,7 +61,7 @@ cleared-as-long l k h = λ i. record {
   occupancies = cleared-whole zeroFloat _ (l .occupancies) (h .occupancies) i;
 }
 
-pub all-cleared : (l : Lent) → clearedFrom l 0 0 0 ≡ holding l emptyModel
+pub all-cleared : (l : Lent) → clearedFrom l noRecords ≡ holding l emptyModel
 all-cleared l = cleared-as-long l l (record {
   chains = refl;
   residueKeys = refl;

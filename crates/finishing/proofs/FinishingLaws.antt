@@ -16,12 +16,13 @@ use Rattle.model.specs.Lent.{Lent, lentOf, roomOf, coordinates, padded, holding
 use Rattle.model.specs.Records.{ResidueRecord, AtomRecord}
 use Rattle.model.specs.Termini.{ruledPosition}
 use Rattle.model.proofs.AscendingLaws.{map-ascends}
+use Rattle.model.specs.declared.room.Room.{Room}
 use Rattle.building.specs.declared.sites.Counts.{Counts}
-use Rattle.building.specs.Holds.{recordsIn, Holds}
+use Rattle.building.specs.Holds.{recordsIn, Holds, sizesOf}
 use Rattle.finishing.specs.declared.finished.Finish.{Finish}
 use Rattle.finishing.specs.declared.finished.Finish.the-variants.{Unknown}
 use Rattle.finishing.specs.Classing.{classAt, unknownAt, firstPlace, Classified}
-use Rattle.finishing.specs.Clearing.{clearedFrom}
+use Rattle.finishing.specs.Clearing.{clearedFrom, noRecords}
 use Rattle.finishing.specs.Filling.{filled}
 use Rattle.finishing.specs.Finishing.{answerOf, leftBy, Ends, keptBy, finishBy}
 use Rattle.finishing.specs.Positioning.{positionAt}
@@ -121,8 +122,7 @@ module _ (l : Lent) (c : Counts) (st : State) (h : Holds (recordsIn l) (roomOf l
       → cleared z (c .atoms) s ≡ padded z (length s) (map field atoms)
   atom-field z s field e = held-padded z (c .atoms) (length s) s field atoms (e ∙ sym (map-map field atomRecord (st .atoms))) many-atoms refl
 
-  all-held : clearedFrom (walked l (stored (λ k. k .name) (l .residueNames)) codes (stored (λ k. k .category) (l .residueCategories)) placed)
-      (c .chains) (c .residues) (c .atoms)
+  all-held : clearedFrom (walked l (stored (λ k. k .name) (l .residueNames)) codes (stored (λ k. k .category) (l .residueCategories)) placed) (keptBy 0 c)
       ≡ holding l (modelFrom st)
   unfolding clearedFrom holding
   all-held = λ i. record {
@@ -153,13 +153,13 @@ module _ (l : Lent) (c : Counts) (r : ℕ) (names codes categories : List ℕ)
   answer-is : r ≡ firstPlace isUnknownAt 0 (length (st .residues))
   answer-is = k .answer ∙ ap (firstPlace isUnknownAt 0) (h .residues .many)
 
-  known-left : r ≡ 0 → (finishedOf st ≡ known (modelFrom st)) × (clearedFrom (walked l names codes categories positions) (c .chains) (c .residues) (c .atoms) ≡ holding l (modelFrom st))
+  known-left : r ≡ 0 → (finishedOf st ≡ known (modelFrom st)) × (clearedFrom (walked l names codes categories positions) (keptBy 0 c) ≡ holding l (modelFrom st))
   unfolding finishedOf
   known-left z =
       let q = none-unknown isUnknownAt (st .residues) (unknown-at l c st h peopled) (sym answer-is ∙ z) in
       let places = p ∙ ap (λ (s : List ℕ). filled (positionAt (l .residueKeys) s (c .residues)) (c .residues) (l .residuePositions)) (k .codesStored z) in (
         ap (λ (o : Option ℕ). unless o (modelFrom st)) q,
-        (λ i. clearedFrom (walked l (k .namesStored z i) (k .codesStored z i) (k .categoriesStored z i) (places i)) (c .chains) (c .residues) (c .atoms))
+        (λ i. clearedFrom (walked l (k .namesStored z i) (k .codesStored z i) (k .categoriesStored z i) (places i)) (keptBy 0 c))
             ∙ all-held l c st h peopled,
       )
 
@@ -171,9 +171,12 @@ module _ (l : Lent) (c : Counts) (r : ℕ) (names codes categories : List ℕ)
       (some-unknown isUnknownAt (st .residues) (unknown-at l c st h peopled) (omega arith) ∙ ap (λ (n : ℕ). some n) (sym a))
 
 -- ---- by the place of the first unknown one
-pub none-kept : (place count : ℕ) → (place ≡ 0 → ⊥) → 0 ≡ keptBy place count
-none-kept zero count n = absurd (n refl)
-none-kept (suc place) count n = refl
+pub all-kept : (place : ℕ) (c : Counts) → place ≡ 0 → sizesOf c ≡ keptBy place c
+all-kept place c e = sym (ap (λ (p : ℕ). keptBy p c) e)
+
+pub none-kept : (place : ℕ) (c : Counts) → (place ≡ 0 → ⊥) → noRecords ≡ keptBy place c
+none-kept zero c n = absurd (n refl)
+none-kept (suc place) c n = refl
 
 pub unknown-finish : (place : ℕ) → (place ≡ 0 → ⊥) → Unknown place ≡ finishBy place
 unknown-finish zero n = absurd (n refl)
@@ -183,12 +186,12 @@ pub model-ends : (l : Lent) (c : Counts) (r : ℕ) (names codes categories : Lis
     → Classified (l .residueKeys) (l .residueNames) (l .residueCodes) (l .residueCategories) (atomKeysIn l c) (c .residues) r names codes categories
     → (positions : List ℕ) → positions ≡ filled (positionAt (l .residueKeys) codes (c .residues)) (c .residues) (l .residuePositions)
     → AsLong (walked l names codes categories positions) l
-    → (kept : ℕ × ℕ × ℕ) → (kept .0 ≡ keptBy r (c .chains)) × (kept .1 ≡ keptBy r (c .residues)) × (kept .2 ≡ keptBy r (c .atoms))
-    → (after : Lent) → after ≡ clearedFrom (walked l names codes categories positions) (kept .0) (kept .1) (kept .2)
+    → (kept : Room) → kept ≡ keptBy r c
+    → (after : Lent) → after ≡ clearedFrom (walked l names codes categories positions) kept
     → (answer : Finish) → answer ≡ finishBy r → Ends l c answer after
 model-ends l c zero names codes categories k positions p long kept w after e answer f st h peopled =
     let q = known-left l c 0 names codes categories k positions p st h peopled refl in
-    (f ∙ sym (ap answerOf (q .0)), e ∙ (λ i. clearedFrom (walked l names codes categories positions) (w .0 i) (w .1 i) (w .2 i)) ∙ q .1 ∙ sym (ap (leftBy l) (q .0)))
+    (f ∙ sym (ap answerOf (q .0)), e ∙ ap (clearedFrom (walked l names codes categories positions)) w ∙ q .1 ∙ sym (ap (leftBy l) (q .0)))
 model-ends l c (suc place) names codes categories k positions p long kept w after e answer f st h peopled =
     let q = unknown-found l c (suc place) names codes categories k positions p st h peopled (omega arith) in
-    (f ∙ sym (ap answerOf q), e ∙ (λ i. clearedFrom (walked l names codes categories positions) (w .0 i) (w .1 i) (w .2 i)) ∙ cleared-as-long (walked l names codes categories positions) l long ∙ sym (ap (leftBy l) q))
+    (f ∙ sym (ap answerOf q), e ∙ ap (clearedFrom (walked l names codes categories positions)) w ∙ cleared-as-long (walked l names codes categories positions) l long ∙ sym (ap (leftBy l) q))

@@ -5,6 +5,8 @@ use mathlib.Core.List.{List}
 use Prim.Native.Nat.{ℕ, zero, suc, _+_}
 use lib.Dec.{eqb}
 use lib.ListN.{getD, drop}
+use denote.Ref.{now}
+use Rattle.records.specs.Slice.{Slice}
 use Rattle.model.specs.Classes.{classOf}
 use Rattle.model.specs.Walks.{lessers, aloneIn}
 use Rattle.model.specs.declared.classes.Class.{Class}
@@ -38,3 +40,8 @@ pub record Classified (keys names codes marks atoms : List ℕ) (n r : ℕ) (nam
   pub namesStored : r ≡ 0 → names' ≡ filled (λ i. classAt keys names atoms i .name) n names
   pub codesStored : r ≡ 0 → codes' ≡ filled (λ i. classAt keys names atoms i .code) n codes
   pub categoriesStored : r ≡ 0 → categories ≡ filled (λ i. classAt keys names atoms i .category) n marks
+
+-- the same of lent slices: the marks stand where the categories will
+abbrev pub Classifies : Slice ℕ → Slice ℕ → Slice ℕ → Slice ℕ → List ℕ → ℕ → ℕ → Type 0
+Classifies keys names codes categories atoms n r =
+    Classified (now (keys .entry)) (now (names .entry)) (now (codes .entry)) (now (categories .entry)) atoms n r (now (names .exit)) (now (codes .exit)) (now (categories .exit))

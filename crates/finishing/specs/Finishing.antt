@@ -4,8 +4,10 @@ use Prim.Native.Nat.{ℕ, zero, suc}
 use Rattle.model.specs.Finished.{Finished, unknown, known, finishedOf, Peopled}
 use Rattle.model.specs.Fold.{State}
 use Rattle.model.specs.Lent.{Lent, roomOf, holding, emptyModel}
+use Rattle.model.specs.declared.room.Room.{Room}
 use Rattle.building.specs.declared.sites.Counts.{Counts}
-use Rattle.building.specs.Holds.{recordsIn, Holds}
+use Rattle.building.specs.Holds.{recordsIn, sizesOf, Holds}
+use Rattle.finishing.specs.Clearing.{noRecords}
 use Rattle.finishing.specs.declared.finished.Finish.{Finish}
 use Rattle.finishing.specs.declared.finished.Finish.the-variants.{Unknown, Known}
 
@@ -26,9 +28,9 @@ Ends l c r after =
 -- ---- by the first unknown residue's place, from 1; 0 where there is none
 
 -- how many records stay
-abbrev pub keptBy : ℕ → ℕ → ℕ
-keptBy zero count = count
-keptBy (suc place) count = 0
+abbrev pub keptBy : ℕ → Counts → Room
+keptBy zero c = sizesOf c
+keptBy (suc place) c = noRecords
 
 abbrev pub finishBy : ℕ → Finish
 finishBy zero = Known

@@ -7,7 +7,7 @@ use records::u64_at;
 ghost use mathlib.Core.Path.{_≡_};
 ghost use lib.ListN.{getD, set, take};
 ghost use Rattle.model.specs.Classes.{classOf};
-ghost use Rattle.finishing.specs.Classing.{isUnknownBy, Classified};
+ghost use Rattle.finishing.specs.Classing.{isUnknownBy, Classifies};
 
 // Neither resolved nor HETATM.
 fn is_unknown(code: u8, mark: u8) -> bool
@@ -51,7 +51,7 @@ pub(crate) fn classify_residues(
     residues: usize,
     atoms: usize,
 ) -> usize
-    ensures { λ r. ⌜ Classified (now (keys .entry)) (now (names .entry)) (now (codes .entry)) (now (categories .entry)) (take atoms (now («atom_keys» .entry))) residues r (now (names .exit)) (now (codes .exit)) (now (categories .exit)) ⌝ }
+    ensures { λ r. ⌜ Classifies keys names codes categories (take atoms (now («atom_keys» .entry))) residues r ⌝ }
 {
     let mut at = 0;
     let mut i = 0;

@@ -1,10 +1,11 @@
 // Every record zero from its count on.
+use model::Room;
 ghost use mathlib.Core.Path.{_≡_};
-ghost use Rattle.model.specs.Lent.{lentOf};
+ghost use Rattle.model.specs.Lent.{lent};
 ghost use Rattle.finishing.specs.Clearing.{clearedFrom};
 
 pub fn clear_records(
-    chain_names: &mut [u64],
+    chains: &mut [u64],
     residue_keys: &mut [u64],
     residue_names: &mut [u64],
     residue_codes: &mut [u8],
@@ -15,14 +16,14 @@ pub fn clear_records(
     elements: &mut [u8],
     positions: &mut [[f64; 3]],
     occupancies: &mut [f64],
-    chains: usize,
-    residues: usize,
-    atoms: usize,
+    kept: Room,
 )
-    ensures { λ _. ⌜ lentOf (now («chain_names» .exit)) (now («residue_keys» .exit)) (now («residue_names» .exit)) (now («residue_codes» .exit)) (now («residue_categories» .exit)) (now («residue_positions» .exit)) (now («atom_keys» .exit)) (now («atom_names» .exit)) (now (elements .exit)) (now (positions .exit)) (now (occupancies .exit))
-        ≡ clearedFrom (lentOf (now («chain_names» .entry)) (now («residue_keys» .entry)) (now («residue_names» .entry)) (now («residue_codes» .entry)) (now («residue_categories» .entry)) (now («residue_positions» .entry)) (now («atom_keys» .entry)) (now («atom_names» .entry)) (now (elements .entry)) (now (positions .entry)) (now (occupancies .entry))) chains residues atoms ⌝ }
+    ensures { λ _. ⌜ (let l = lent chains «residue_keys» «residue_names» «residue_codes» «residue_categories» «residue_positions» «atom_keys» «atom_names» elements positions occupancies in
+        l .exit ≡ clearedFrom (l .entry) kept) ⌝ }
 {
-    records::clear_u64_from(chain_names, chains);
+    let residues = kept.residues;
+    let atoms = kept.atoms;
+    records::clear_u64_from(chains, kept.chains);
     records::clear_u64_from(residue_keys, residues);
     records::clear_u64_from(residue_names, residues);
     records::clear_u8_from(residue_codes, residues);

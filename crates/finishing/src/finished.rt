@@ -3,8 +3,10 @@ use crate::classes::classify_residues;
 use crate::clearing::clear_records;
 use crate::positions::position_residues;
 use building::Counts;
+use building::sizes_of;
+use model::Room;
 ghost use mathlib.Core.Path.{_≡_};
-ghost use Rattle.model.specs.Lent.{lentOf};
+ghost use Rattle.model.specs.Lent.{lent};
 ghost use Rattle.finishing.specs.Finishing.{keptBy, finishBy, Ends};
 
 pub enum Finish {
@@ -14,10 +16,17 @@ pub enum Finish {
 }
 
 // How many records stay: none where there is an unknown residue.
-fn kept_by(unknown: usize, count: usize) -> usize
-    ensures { λ r. ⌜ r ≡ keptBy unknown count ⌝ }
+fn kept_by(unknown: usize, counts: Counts) -> Room
+    ensures { λ r. ⌜ r ≡ keptBy unknown counts ⌝ }
 {
-    if unknown == 0 { count } else { 0 }
+    if unknown == 0 {
+        return sizes_of(counts);
+    }
+    Room {
+        chains: 0,
+        residues: 0,
+        atoms: 0,
+    }
 }
 
 fn finish_by(unknown: usize) -> Finish
@@ -45,8 +54,8 @@ pub fn finish_model(
     occupancies: &mut [f64],
     counts: Counts,
 ) -> Finish
-    ensures { λ r. ⌜ Ends (lentOf (now (chains .entry)) (now («residue_keys» .entry)) (now («residue_names» .entry)) (now («residue_codes» .entry)) (now («residue_categories» .entry)) (now («residue_positions» .entry)) (now («atom_keys» .entry)) (now («atom_names» .entry)) (now (elements .entry)) (now (positions .entry)) (now (occupancies .entry))) counts r
-        (lentOf (now (chains .exit)) (now («residue_keys» .exit)) (now («residue_names» .exit)) (now («residue_codes» .exit)) (now («residue_categories» .exit)) (now («residue_positions» .exit)) (now («atom_keys» .exit)) (now («atom_names» .exit)) (now (elements .exit)) (now (positions .exit)) (now (occupancies .exit))) ⌝ }
+    ensures { λ r. ⌜ (let l = lent chains «residue_keys» «residue_names» «residue_codes» «residue_categories» «residue_positions» «atom_keys» «atom_names» elements positions occupancies in
+        Ends (l .entry) counts r (l .exit)) ⌝ }
 {
     let residues = counts.residues;
     let unknown = classify_residues(
@@ -71,9 +80,7 @@ pub fn finish_model(
         elements,
         positions,
         occupancies,
-        kept_by(unknown, counts.chains),
-        kept_by(unknown, residues),
-        kept_by(unknown, counts.atoms),
+        kept_by(unknown, counts),
     );
     finish_by(unknown)
 }

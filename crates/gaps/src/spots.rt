@@ -83,7 +83,7 @@ fn spot_behind_key(keys: &[u64], key: u64) -> Spot
 }
 
 pub fn spot_of_key(keys: &[u64], front: usize, behind: usize, key: u64) -> Spot
-    ensures { λ r. ⌜ (front + behind ≤ length (now (keys .entry)) → Spotted ltb (closed front behind (now (keys .entry))) key r) ⌝ }
+    ensures { λ r. ⌜ (let k = now (keys .entry) in front + behind ≤ length k → Spotted ltb (closed front behind k) key r) ⌝ }
 {
     if !is_within(keys.len(), front, behind) {
         return Spot {
@@ -186,7 +186,8 @@ pub fn spot_of(
     key: u64,
     name: u64,
 ) -> Spot
-    ensures { λ r. ⌜ (front + behind ≤ length (now (keys .entry)) → front + behind ≤ length (now (names .entry)) → Spotted below (pairs (closed front behind (now (keys .entry))) (closed front behind (now (names .entry)))) (key, name) r) ⌝ }
+    ensures { λ r. ⌜ (let k = now (keys .entry) in let n = now (names .entry) in
+        front + behind ≤ length k → front + behind ≤ length n → Spotted below (pairs (closed front behind k) (closed front behind n)) (key, name) r) ⌝ }
 {
     if !is_within(keys.len(), front, behind) {
         return Spot {

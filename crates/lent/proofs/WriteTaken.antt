@@ -12,7 +12,7 @@ use lib.Seq.{take-nil, take-take}
 use borrow.Author.Tests.{leb-true}
 use Rattle.model.specs.Lent.{Lent, roomOf, listFrom, residueIn, atomIn, modelIn}
 use Rattle.model.specs.Records.{Model}
-use Rattle.model.specs.WellFormed.{wellFormed, countsFit, wellFormedIn}
+use Rattle.model.specs.WellFormed.{within, wellFormed, countsFit, wellFormedIn}
 use Rattle.model.specs.declared.room.Room.{Room}
 use Rattle.model.proofs.ListLaws.{left-of}
 use Rattle.writer.specs.Writing.{Writing, refused, writingOf, writeOf}
@@ -30,46 +30,46 @@ taken-first (suc n) (x ∷ l) [] e = absurd (suc-ne-zero n (sym e))
 taken-first (suc n) (x ∷ l) (y ∷ names) e = ap (λ (m : List ℕ). x ∷ m) (taken-first n l names (suc-inj e))
 
 -- ---- the first 4,096 chains are enough
-module _ (l : Lent) (names : List ℕ) (chains residues atoms size : ℕ) where
+module _ (l : Lent) (names : List ℕ) (counts : Room) (size : ℕ) where
   abbrev first : Lent
   first = withChains l (take 4096 names)
 
   abbrev whole : Lent
   whole = withChains l names
 
-  same-fit : countsFit first chains residues atoms ≡ countsFit whole chains residues atoms
+  same-fit : countsFit first counts ≡ countsFit whole counts
   unfolding countsFit
   same-fit =
-      ap (λ (room : Room). leb chains (room .chains) && leb residues (room .residues) && leb atoms (room .atoms))
+      ap (within counts)
       (same-room l (take 4096 names) names (simp length-take (omega arith)))
 
-  few : countsFit whole chains residues atoms ≡ true → chains ≤ 4096
+  few : countsFit whole counts ≡ true → counts .chains ≤ 4096
   unfolding countsFit roomOf
   few e =
-      let fits = leb chains (min 4096 (length names)) in
-      let h = leb-true chains (min 4096 (length names)) (left-of fits (leb residues (roomOf whole .residues)) (left-of (fits && leb residues (roomOf whole .residues)) (leb atoms (roomOf whole .atoms)) e)) in
+      let fits = leb (counts .chains) (min 4096 (length names)) in
+      let h = leb-true (counts .chains) (min 4096 (length names)) (left-of fits (leb (counts .residues) (roomOf whole .residues)) (left-of (fits && leb (counts .residues) (roomOf whole .residues)) (leb (counts .atoms) (roomOf whole .atoms)) e)) in
       omega arith
 
-  same-model : chains ≤ 4096 → modelIn first chains residues atoms ≡ modelIn whole chains residues atoms
+  same-model : counts .chains ≤ 4096 → modelIn first counts ≡ modelIn whole counts
   unfolding modelIn
   same-model h =
-      λ i. record { chains = take-take chains 4096 names h i; residues = listFrom (residueIn l) 0 residues; atoms = listFrom (atomIn l) 0 atoms }
+      λ i. record { chains = take-take (counts .chains) 4096 names h i; residues = listFrom (residueIn l) 0 (counts .residues); atoms = listFrom (atomIn l) 0 (counts .atoms) }
 
   abbrev written : Bool → Model → Writing
   written fit m = cond (fit && wellFormed m) (writingOf size m) (refused NotWellFormed)
 
-  same-written : writeOf first chains residues atoms size ≡ writeOf whole chains residues atoms size
+  same-written : writeOf first counts size ≡ writeOf whole counts size
   unfolding writeOf wellFormedIn
-  same-written = ap (λ (fit : Bool). written fit (modelIn first chains residues atoms)) same-fit ∙ go (countsFit whole chains residues atoms) few
+  same-written = ap (λ (fit : Bool). written fit (modelIn first counts)) same-fit ∙ go (countsFit whole counts) few
     where
-      go : (fit : Bool) → (fit ≡ true → chains ≤ 4096) → written fit (modelIn first chains residues atoms) ≡ written fit (modelIn whole chains residues atoms)
+      go : (fit : Bool) → (fit ≡ true → counts .chains ≤ 4096) → written fit (modelIn first counts) ≡ written fit (modelIn whole counts)
       go true h = ap (written true) (same-model (h refl))
       go false h = refl
 
-pub write-taken : (ys : List Chain) (names : List ℕ) (l : Lent) (chains residues atoms size : ℕ) → length names ≡ 4096
-    → writeOf (withChains l (take (length ys) (takenOver (namesIn ys) names))) chains residues atoms size ≡ writeOf (withChains l (namesIn ys)) chains residues atoms size
+pub write-taken : (ys : List Chain) (names : List ℕ) (l : Lent) (counts : Room) (size : ℕ) → length names ≡ 4096
+    → writeOf (withChains l (take (length ys) (takenOver (namesIn ys) names))) counts size ≡ writeOf (withChains l (namesIn ys)) counts size
 unfolding takenOver
-write-taken ys names l chains residues atoms size long =
-    ap (λ (x : List ℕ). writeOf (withChains l x) chains residues atoms size)
+write-taken ys names l counts size long =
+    ap (λ (x : List ℕ). writeOf (withChains l x) counts size)
     (ap (λ (n : ℕ). take n (takenOver (namesIn ys) names)) (sym (length-map ys (λ c. c .name))) ∙ taken-first 4096 (namesIn ys) names long)
-    ∙ same-written l (namesIn ys) chains residues atoms size
+    ∙ same-written l (namesIn ys) counts size

@@ -5,9 +5,9 @@ use chains::no_names;
 use chains::store_names;
 use reader::Answer;
 ghost use Prim.Native.Nat.{_≤_};
-ghost use lib.ListN.{length, take};
-ghost use Rattle.chains.specs.Names.{namesIn};
-ghost use Rattle.model.specs.Lent.{lentOf};
+ghost use lib.ListN.{length};
+ghost use Rattle.chains.specs.Names.{firstAt, namesAt};
+ghost use Rattle.model.specs.Lent.{lentBy};
 ghost use Rattle.reader.specs.Closing.{ReadBy};
 
 // The reading by names, in the first so many. The names come as a slice: the borrow checker covers a part of one, and no part of a lent array.
@@ -27,8 +27,8 @@ fn read_first(
     occupancies: &mut [f64],
 ) -> Answer
     requires { ⌜ size ≤ length (now names) ⌝ }
-    ensures { λ r. ⌜ ReadBy (lentOf (take size (now (names .entry))) (now («residue_keys» .entry)) (now («residue_names» .entry)) (now («residue_codes» .entry)) (now («residue_categories» .entry)) (now («residue_positions» .entry)) (now («atom_keys» .entry)) (now («atom_names» .entry)) (now (elements .entry)) (now (positions .entry)) (now (occupancies .entry))) (now (text .entry)) r
-        (lentOf (take size (now (names .exit))) (now («residue_keys» .exit)) (now («residue_names» .exit)) (now («residue_codes» .exit)) (now («residue_categories» .exit)) (now («residue_positions» .exit)) (now («atom_keys» .exit)) (now («atom_names» .exit)) (now (elements .exit)) (now (positions .exit)) (now (occupancies .exit))) ⌝ }
+    ensures { λ r. ⌜ (let l = lentBy (firstAt size names) «residue_keys» «residue_names» «residue_codes» «residue_categories» «residue_positions» «atom_keys» «atom_names» elements positions occupancies in
+        ReadBy (l .entry) (now (text .entry)) r (l .exit)) ⌝ }
 {
     reader::read_by_names(
         text,
@@ -62,8 +62,8 @@ fn read_into(
     positions: &mut [[f64; 3]],
     occupancies: &mut [f64],
 ) -> Answer
-    ensures { λ r. ⌜ ReadBy (lentOf (take size (now (names .entry))) (now («residue_keys» .entry)) (now («residue_names» .entry)) (now («residue_codes» .entry)) (now («residue_categories» .entry)) (now («residue_positions» .entry)) (now («atom_keys» .entry)) (now («atom_names» .entry)) (now (elements .entry)) (now (positions .entry)) (now (occupancies .entry))) (now (text .entry)) r
-        (lentOf (take size (now (names .exit))) (now («residue_keys» .exit)) (now («residue_names» .exit)) (now («residue_codes» .exit)) (now («residue_categories» .exit)) (now («residue_positions» .exit)) (now («atom_keys» .exit)) (now («atom_names» .exit)) (now (elements .exit)) (now (positions .exit)) (now (occupancies .exit))) ⌝ }
+    ensures { λ r. ⌜ (let l = lentBy (firstAt size names) «residue_keys» «residue_names» «residue_codes» «residue_categories» «residue_positions» «atom_keys» «atom_names» elements positions occupancies in
+        ReadBy (l .entry) (now (text .entry)) r (l .exit)) ⌝ }
 {
     let size = chains::kept(size);
     read_first(
@@ -98,8 +98,8 @@ pub fn read(
     positions: &mut [[f64; 3]],
     occupancies: &mut [f64],
 ) -> Answer
-    ensures { λ r. ⌜ ReadBy (lentOf (namesIn (now (chains .entry))) (now («residue_keys» .entry)) (now («residue_names» .entry)) (now («residue_codes» .entry)) (now («residue_categories» .entry)) (now («residue_positions» .entry)) (now («atom_keys» .entry)) (now («atom_names» .entry)) (now (elements .entry)) (now (positions .entry)) (now (occupancies .entry))) (now (text .entry)) r
-        (lentOf (namesIn (now (chains .exit))) (now («residue_keys» .exit)) (now («residue_names» .exit)) (now («residue_codes» .exit)) (now («residue_categories» .exit)) (now («residue_positions» .exit)) (now («atom_keys» .exit)) (now («atom_names» .exit)) (now (elements .exit)) (now (positions .exit)) (now (occupancies .exit))) ⌝ }
+    ensures { λ r. ⌜ (let l = lentBy (namesAt chains) «residue_keys» «residue_names» «residue_codes» «residue_categories» «residue_positions» «atom_keys» «atom_names» elements positions occupancies in
+        ReadBy (l .entry) (now (text .entry)) r (l .exit)) ⌝ }
 {
     let mut names = no_names();
     let size = chains.len();

@@ -3,11 +3,11 @@ use chains::Chain;
 use chains::Names;
 use chains::no_names;
 use chains::take_names;
+use model::Room;
 use writer::Answer;
-ghost use lib.ListN.{length, take};
-ghost use Rattle.chains.specs.Names.{namesIn};
-ghost use Rattle.model.specs.Lent.{lentOf};
-ghost use Rattle.writer.specs.Writing.{writeOf, Wrote};
+ghost use Rattle.chains.specs.Names.{firstAt, namesAt};
+ghost use Rattle.model.specs.Lent.{lentBy};
+ghost use Rattle.writer.specs.Writing.{writeOf, Writes};
 
 // The writing by names, for a chain list of so many records: of a longer one a model uses the first 4,096.
 fn write_from(
@@ -28,7 +28,8 @@ fn write_from(
     atom_count: usize,
     out: &mut [u8],
 ) -> Answer
-    ensures { λ r. ⌜ Wrote (now (out .entry)) (writeOf (lentOf (take size (now (names .entry))) (now («residue_keys» .entry)) (now («residue_names» .entry)) (now («residue_codes» .entry)) (now («residue_categories» .entry)) (now («residue_positions» .entry)) (now («atom_keys» .entry)) (now («atom_names» .entry)) (now (elements .entry)) (now (positions .entry)) (now (occupancies .entry))) «chain_count» «residue_count» «atom_count» (length (now (out .entry)))) r (now (out .exit)) ⌝ }
+    ensures { λ r. ⌜ (let l = lentBy (firstAt size names) «residue_keys» «residue_names» «residue_codes» «residue_categories» «residue_positions» «atom_keys» «atom_names» elements positions occupancies .entry in
+        Writes out (writeOf l (record { chains = «chain_count»; residues = «residue_count»; atoms = «atom_count» })) r) ⌝ }
 {
     let size = chains::kept(size);
     let all: &[u64] = names;
@@ -44,9 +45,11 @@ fn write_from(
         elements,
         positions,
         occupancies,
-        chain_count,
-        residue_count,
-        atom_count,
+        Room {
+            chains: chain_count,
+            residues: residue_count,
+            atoms: atom_count,
+        },
         out,
     )
 }
@@ -69,7 +72,8 @@ pub fn write_structure(
     atom_count: usize,
     out: &mut [u8],
 ) -> Answer
-    ensures { λ r. ⌜ Wrote (now (out .entry)) (writeOf (lentOf (namesIn (now (chains .entry))) (now («residue_keys» .entry)) (now («residue_names» .entry)) (now («residue_codes» .entry)) (now («residue_categories» .entry)) (now («residue_positions» .entry)) (now («atom_keys» .entry)) (now («atom_names» .entry)) (now (elements .entry)) (now (positions .entry)) (now (occupancies .entry))) «chain_count» «residue_count» «atom_count» (length (now (out .entry)))) r (now (out .exit)) ⌝ }
+    ensures { λ r. ⌜ (let l = lentBy (namesAt chains) «residue_keys» «residue_names» «residue_codes» «residue_categories» «residue_positions» «atom_keys» «atom_names» elements positions occupancies .entry in
+        Writes out (writeOf l (record { chains = «chain_count»; residues = «residue_count»; atoms = «atom_count» })) r) ⌝ }
 {
     let mut names = no_names();
     take_names(chains, &mut names);

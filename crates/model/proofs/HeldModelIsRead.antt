@@ -10,7 +10,7 @@ use lib.ListN.{length, getD, take, replicate, length-append, length-replicate, l
 use lib.Seq.{take-append-seam}
 use borrow.Author.Tests.{leb-true}
 use Rattle.records.specs.Clearing.{zeroFloat, zeroPoint}
-use Rattle.model.specs.Lent.{Lent, roomOf, coordinates, pointOf, residueIn, atomIn, listFrom, modelIn, padded, holding}
+use Rattle.model.specs.Lent.{Lent, roomOf, coordinates, pointOf, residueIn, atomIn, listFrom, modelIn, padded, holding, sizesIn}
 use Rattle.model.specs.Records.{ResidueRecord, AtomRecord, Model}
 use Rattle.model.specs.WellFormed.{wellFormed, countsFit, wellFormedIn}
 use Rattle.model.proofs.ListLaws.{left-of, right-of}
@@ -72,7 +72,7 @@ module _ (l : Lent) (m : Model) where
   }
 
   -- ---- the theorems
-  pub held-model-is-read : modelIn (holding l m) (length (m .chains)) (length (m .residues)) (length (m .atoms)) ≡ m
+  pub held-model-is-read : modelIn (holding l m) (sizesIn m) ≡ m
   unfolding modelIn holding
   held-model-is-read = λ k. record {
     chains = chains-read (length (l .chains)) (m .chains) k;
@@ -109,8 +109,8 @@ module _ (l : Lent) (m : Model) where
       atom z n f h = length-padded z n (map f (m .atoms)) (omega (arith, length-map (m .atoms) f))
 
   -- where the counts fit, they fit still
-  pub well-formed-there : countsFit l (length (m .chains)) (length (m .residues)) (length (m .atoms)) ≡ true
-      → wellFormedIn (holding l m) (length (m .chains)) (length (m .residues)) (length (m .atoms)) ≡ wellFormed m
+  pub well-formed-there : countsFit l (sizesIn m) ≡ true
+      → wellFormedIn (holding l m) (sizesIn m) ≡ wellFormed m
   unfolding countsFit wellFormedIn
   well-formed-there h =
       let A = leb (length (m .chains)) (roomOf l .chains) in
@@ -118,6 +118,6 @@ module _ (l : Lent) (m : Model) where
       let C = leb (length (m .atoms)) (roomOf l .atoms) in
       let room = same-room (leb-true _ _ (left-of A B (left-of (A && B) C h))) (leb-true _ _ (right-of A B (left-of (A && B) C h))) (leb-true _ _ (right-of (A && B) C h)) in
       ap (λ r. leb (length (m .chains)) (r .chains) && leb (length (m .residues)) (r .residues) && leb (length (m .atoms)) (r .atoms)
-      && wellFormed (modelIn (holding l m) (length (m .chains)) (length (m .residues)) (length (m .atoms)))) room
-      ∙ ap (λ (t : Bool). t && wellFormed (modelIn (holding l m) (length (m .chains)) (length (m .residues)) (length (m .atoms)))) h
+      && wellFormed (modelIn (holding l m) (sizesIn m))) room
+      ∙ ap (λ (t : Bool). t && wellFormed (modelIn (holding l m) (sizesIn m))) h
       ∙ ap wellFormed held-model-is-read

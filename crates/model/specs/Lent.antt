@@ -2,9 +2,12 @@
 use mathlib.Core.List.{List, [], _∷_, _++_, map}
 use Prim.Native.Nat.{ℕ, zero, suc, _-_, min}
 use lib.Ieee.{Float}
+use denote.Ref.{RefT, now}
+use denote.Triple.Both.{Both}
 use lib.ListN.{length, getD, take, replicate}
 use Rattle.rows.specs.declared.rules.Point3.{Point3}
 use Rattle.records.specs.Clearing.{zeroFloat, zeroPoint}
+use Rattle.records.specs.Slice.{Slice, held}
 use Rattle.model.specs.declared.room.Room.{Room}
 use Rattle.model.specs.Records.{ResidueRecord, AtomRecord, Model}
 
@@ -36,6 +39,25 @@ lentOf chains residueKeys residueNames residueCodes residueCategories residuePos
   occupancies = occupancies;
 }
 
+-- ---- the same of a function's parameters
+
+-- at its entry and at its exit, with the names of the chains at both
+abbrev pub lentBy : Both (List ℕ) (List ℕ) → Slice ℕ → Slice ℕ → Slice ℕ → Slice ℕ → Slice ℕ → Slice ℕ → Slice ℕ → Slice ℕ → Slice (List Float) → Slice Float → Both Lent Lent
+lentBy chains residueKeys residueNames residueCodes residueCategories residuePositions atomKeys atomNames elements positions occupancies = record {
+  entry = lentOf (chains .entry) (now (residueKeys .entry)) (now (residueNames .entry)) (now (residueCodes .entry)) (now (residueCategories .entry)) (now (residuePositions .entry)) (now (atomKeys .entry)) (now (atomNames .entry)) (now (elements .entry)) (now (positions .entry)) (now (occupancies .entry));
+  exit = lentOf (chains .exit) (now (residueKeys .exit)) (now (residueNames .exit)) (now (residueCodes .exit)) (now (residueCategories .exit)) (now (residuePositions .exit)) (now (atomKeys .exit)) (now (atomNames .exit)) (now (elements .exit)) (now (positions .exit)) (now (occupancies .exit));
+}
+
+abbrev pub lent : Slice ℕ → Slice ℕ → Slice ℕ → Slice ℕ → Slice ℕ → Slice ℕ → Slice ℕ → Slice ℕ → Slice ℕ → Slice (List Float) → Slice Float → Both Lent Lent
+lent chains = lentBy (held chains)
+
+-- as they are passed
+abbrev pub passed : RefT (List ℕ) → RefT (List ℕ) → RefT (List ℕ) → RefT (List ℕ) → RefT (List ℕ) → RefT (List ℕ) → RefT (List ℕ) → RefT (List ℕ) → RefT (List ℕ) → RefT (List (List Float)) → RefT (List Float) → Lent
+passed chains residueKeys residueNames residueCodes residueCategories residuePositions atomKeys atomNames elements positions occupancies =
+    lentOf (now chains) (now residueKeys) (now residueNames) (now residueCodes) (now residueCategories) (now residuePositions) (now atomKeys) (now atomNames) (now elements) (now positions) (now occupancies)
+
+-- ---- the room in them
+
 -- the sizes of document 01, and no more than the shortest slice has
 unfoldable pub roomOf : Lent → Room
 roomOf l = record {
@@ -57,24 +79,30 @@ coordinates p = p .x ∷ p .y ∷ p .z ∷ []
 abbrev pub pointOf : List Float → Point3
 pointOf l = record { x = getD l 0 zeroFloat; y = getD l 1 zeroFloat; z = getD l 2 zeroFloat }
 
--- the records at an index
+-- the records at an index of their slices
+abbrev pub residueFrom : List ℕ → List ℕ → List ℕ → List ℕ → List ℕ → ℕ → ResidueRecord
+residueFrom keys names codes categories positions i = record {
+  key = getD keys i 0;
+  name = getD names i 0;
+  code = getD codes i 0;
+  category = getD categories i 0;
+  position = getD positions i 0;
+}
+
 abbrev pub residueIn : Lent → ℕ → ResidueRecord
-residueIn l i = record {
-  key = getD (l .residueKeys) i 0;
-  name = getD (l .residueNames) i 0;
-  code = getD (l .residueCodes) i 0;
-  category = getD (l .residueCategories) i 0;
-  position = getD (l .residuePositions) i 0;
+residueIn l = residueFrom (l .residueKeys) (l .residueNames) (l .residueCodes) (l .residueCategories) (l .residuePositions)
+
+abbrev pub atomFrom : List ℕ → List ℕ → List ℕ → List (List Float) → List Float → ℕ → AtomRecord
+atomFrom keys names elements positions occupancies i = record {
+  key = getD keys i 0;
+  name = getD names i 0;
+  element = getD elements i 0;
+  position = pointOf (getD positions i zeroPoint);
+  occupancy = getD occupancies i zeroFloat;
 }
 
 abbrev pub atomIn : Lent → ℕ → AtomRecord
-atomIn l i = record {
-  key = getD (l .atomKeys) i 0;
-  name = getD (l .atomNames) i 0;
-  element = getD (l .elements) i 0;
-  position = pointOf (getD (l .positions) i zeroPoint);
-  occupancy = getD (l .occupancies) i zeroFloat;
-}
+atomIn l = atomFrom (l .atomKeys) (l .atomNames) (l .elements) (l .positions) (l .occupancies)
 
 -- what stands at i, at the next, and so on: n of them
 unfoldable pub listFrom : {A : Type 0} → (ℕ → A) → ℕ → ℕ → List A
@@ -82,12 +110,16 @@ listFrom at i zero = []
 listFrom at i (suc n) = at i ∷ listFrom at (suc i) n
 
 -- so many chains, residues and atoms
-unfoldable pub modelIn : Lent → ℕ → ℕ → ℕ → Model
-modelIn l chains residues atoms = record {
-  chains = take chains (l .chains);
-  residues = listFrom (residueIn l) 0 residues;
-  atoms = listFrom (atomIn l) 0 atoms;
+unfoldable pub modelIn : Lent → Room → Model
+modelIn l counts = record {
+  chains = take (counts .chains) (l .chains);
+  residues = listFrom (residueIn l) 0 (counts .residues);
+  atoms = listFrom (atomIn l) 0 (counts .atoms);
 }
+
+-- how many a model has
+abbrev pub sizesIn : Model → Room
+sizesIn m = record { chains = length (m .chains); residues = length (m .residues); atoms = length (m .atoms) }
 
 -- ---- the slices of a model
 

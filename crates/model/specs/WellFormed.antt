@@ -16,6 +16,7 @@ use Rattle.model.specs.Lent.{Lent, roomOf, listFrom, modelIn}
 use Rattle.model.specs.Lists.{any}
 use Rattle.model.specs.Records.{ResidueRecord, AtomRecord, Model}
 use Rattle.model.specs.Termini.{ruledPosition}
+use Rattle.model.specs.declared.room.Room.{Room}
 
 -- ---- lists
 
@@ -87,9 +88,11 @@ unfoldable pub wellFormed : Model → Bool
 wellFormed m = chainsWell (m .chains) && inRuns m && inOrder m && every (residueWell m) (m .residues) && every atomWell (m .atoms)
 
 -- counts fit records and sizes
-unfoldable pub countsFit : Lent → ℕ → ℕ → ℕ → Bool
-countsFit l chains residues atoms =
-    leb chains (roomOf l .chains) && leb residues (roomOf l .residues) && leb atoms (roomOf l .atoms)
+abbrev pub within : Room → Room → Bool
+within counts room = leb (counts .chains) (room .chains) && leb (counts .residues) (room .residues) && leb (counts .atoms) (room .atoms)
 
-unfoldable pub wellFormedIn : Lent → ℕ → ℕ → ℕ → Bool
-wellFormedIn l chains residues atoms = countsFit l chains residues atoms && wellFormed (modelIn l chains residues atoms)
+unfoldable pub countsFit : Lent → Room → Bool
+countsFit l counts = within counts (roomOf l)
+
+unfoldable pub wellFormedIn : Lent → Room → Bool
+wellFormedIn l counts = countsFit l counts && wellFormed (modelIn l counts)

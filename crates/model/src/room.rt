@@ -2,7 +2,7 @@
 use records::smaller;
 ghost use mathlib.Core.Path.{_≡_};
 ghost use Prim.Native.Nat.{min};
-ghost use Rattle.model.specs.Lent.{lentOf, roomOf};
+ghost use Rattle.model.specs.Lent.{lent, roomOf};
 
 pub struct Room {
     pub chains: usize,
@@ -29,7 +29,8 @@ pub fn room_of(
     positions: &[[f64; 3]],
     occupancies: &[f64],
 ) -> Room
-    ensures { λ r. ⌜ r ≡ roomOf (lentOf (now (chains .entry)) (now («residue_keys» .entry)) (now («residue_names» .entry)) (now («residue_codes» .entry)) (now («residue_categories» .entry)) (now («residue_positions» .entry)) (now («atom_keys» .entry)) (now («atom_names» .entry)) (now (elements .entry)) (now (positions .entry)) (now (occupancies .entry))) ⌝ }
+    ensures { λ r. ⌜ (let l = lent chains «residue_keys» «residue_names» «residue_codes» «residue_categories» «residue_positions» «atom_keys» «atom_names» elements positions occupancies .entry in
+        r ≡ roomOf l) ⌝ }
 {
     let residues = smallest(
         residue_keys.len(),

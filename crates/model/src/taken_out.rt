@@ -6,9 +6,7 @@ use records::point_at;
 use records::u64_at;
 use rows::Point3;
 ghost use mathlib.Core.Path.{_≡_};
-ghost use lib.ListN.{getD};
-ghost use Rattle.records.specs.Clearing.{zeroFloat, zeroPoint};
-ghost use Rattle.model.specs.Lent.{pointOf};
+ghost use Rattle.model.specs.Lent.{pointOf, residueFrom, atomFrom};
 ghost use Rattle.model.specs.TakenOut.{signed, residueOut, atomOut};
 
 pub struct Residue {
@@ -58,7 +56,7 @@ pub fn residue_at(
     positions: &[u8],
     i: usize,
 ) -> Residue
-    ensures { λ r. ⌜ r ≡ residueOut (record { key = getD (now (keys .entry)) i 0; name = getD (now (names .entry)) i 0; code = getD (now (codes .entry)) i 0; category = getD (now (categories .entry)) i 0; position = getD (now (positions .entry)) i 0 }) ⌝ }
+    ensures { λ r. ⌜ r ≡ residueOut (residueFrom (now (keys .entry)) (now (names .entry)) (now (codes .entry)) (now (categories .entry)) (now (positions .entry)) i) ⌝ }
 {
     let key = u64_at(keys, i);
     Residue {
@@ -80,7 +78,7 @@ pub fn atom_at(
     occupancies: &[f64],
     i: usize,
 ) -> Atom
-    ensures { λ r. ⌜ r ≡ atomOut (record { key = getD (now (keys .entry)) i 0; name = getD (now (names .entry)) i 0; element = getD (now (elements .entry)) i 0; position = pointOf (getD (now (positions .entry)) i zeroPoint); occupancy = getD (now (occupancies .entry)) i zeroFloat }) ⌝ }
+    ensures { λ r. ⌜ r ≡ atomOut (atomFrom (now (keys .entry)) (now (names .entry)) (now (elements .entry)) (now (positions .entry)) (now (occupancies .entry)) i) ⌝ }
 {
     Atom {
         key: u64_at(keys, i),

@@ -5,11 +5,12 @@ use finishing::Finish;
 use finishing::clear_records;
 use finishing::finish_model;
 use lines::Outside;
+use model::Room;
 use taking::Halt;
 use taking::Refusal;
 use taking::read_lines;
 ghost use mathlib.Core.Path.{_≡_};
-ghost use Rattle.model.specs.Lent.{lentOf};
+ghost use Rattle.model.specs.Lent.{lent};
 ghost use Rattle.reader.specs.Closing.{haltedBy, haltedEarly, finishedBy, Closes, ReadBy};
 
 // The largest text.
@@ -62,8 +63,8 @@ fn close(
     counts: Counts,
     halt: Halt,
 ) -> Answer
-    ensures { λ r. ⌜ Closes (lentOf (now (chains .entry)) (now («residue_keys» .entry)) (now («residue_names» .entry)) (now («residue_codes» .entry)) (now («residue_categories» .entry)) (now («residue_positions» .entry)) (now («atom_keys» .entry)) (now («atom_names» .entry)) (now (elements .entry)) (now (positions .entry)) (now (occupancies .entry))) counts halt r
-        (lentOf (now (chains .exit)) (now («residue_keys» .exit)) (now («residue_names» .exit)) (now («residue_codes» .exit)) (now («residue_categories» .exit)) (now («residue_positions» .exit)) (now («atom_keys» .exit)) (now («atom_names» .exit)) (now (elements .exit)) (now (positions .exit)) (now (occupancies .exit))) ⌝ }
+    ensures { λ r. ⌜ (let l = lent chains «residue_keys» «residue_names» «residue_codes» «residue_categories» «residue_positions» «atom_keys» «atom_names» elements positions occupancies in
+        Closes (l .entry) counts halt r (l .exit)) ⌝ }
 {
     match halt {
         Halt::Refused(why) => {
@@ -79,9 +80,11 @@ fn close(
                 elements,
                 positions,
                 occupancies,
-                0,
-                0,
-                0,
+                Room {
+                    chains: 0,
+                    residues: 0,
+                    atoms: 0,
+                },
             );
             Answer::Refused(why)
         }
@@ -119,8 +122,8 @@ pub fn read_by_names(
     positions: &mut [[f64; 3]],
     occupancies: &mut [f64],
 ) -> Answer
-    ensures { λ r. ⌜ ReadBy (lentOf (now (chains .entry)) (now («residue_keys» .entry)) (now («residue_names» .entry)) (now («residue_codes» .entry)) (now («residue_categories» .entry)) (now («residue_positions» .entry)) (now («atom_keys» .entry)) (now («atom_names» .entry)) (now (elements .entry)) (now (positions .entry)) (now (occupancies .entry))) (now (text .entry)) r
-        (lentOf (now (chains .exit)) (now («residue_keys» .exit)) (now («residue_names» .exit)) (now («residue_codes» .exit)) (now («residue_categories» .exit)) (now («residue_positions» .exit)) (now («atom_keys» .exit)) (now («atom_names» .exit)) (now (elements .exit)) (now (positions .exit)) (now (occupancies .exit))) ⌝ }
+    ensures { λ r. ⌜ (let l = lent chains «residue_keys» «residue_names» «residue_codes» «residue_categories» «residue_positions» «atom_keys» «atom_names» elements positions occupancies in
+        ReadBy (l .entry) (now (text .entry)) r (l .exit)) ⌝ }
 {
     let room = model::room_of(
         chains,

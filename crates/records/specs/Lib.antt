@@ -1,3 +1,4 @@
 pub mod Clearing
 pub mod Insertion
 pub mod Places
+pub mod Slice

@@ -15,6 +15,7 @@ use Rattle.numbers.proofs.PrintedReadsBack.{printed-reads-back}
 use Rattle.numbers.proofs.ValueIsNearest.{value-is-nearest}
 use Rattle.model.specs.Lent.{Lent, roomOf, residueIn, atomIn, listFrom, modelIn, holding}
 use Rattle.model.specs.Records.{Model}
+use Rattle.model.specs.declared.room.Room.{Room}
 use Rattle.model.specs.WellFormed.{wellFormed, countsFit, wellFormedIn}
 use Rattle.model.proofs.ListLaws.{left-of, right-of}
 use Rattle.reader.specs.Closing.{ReadBy}
@@ -42,12 +43,12 @@ record Wrote (m : Model) (text : List ℕ) : Type 0 where
 refused-not : {why : Refusal} {text : List ℕ} {A : Type 0} → refused why ≡ written text → A
 refused-not e = let z : _≡_ {A = ℕ} 0 1 = cc in absurd (omega arith)
 
-wrote : (l : Lent) (chains residues atoms size : ℕ) (text : List ℕ) → writeOf l chains residues atoms size ≡ written text → Wrote (modelIn l chains residues atoms) text
+wrote : (l : Lent) (counts : Room) (size : ℕ) (text : List ℕ) → writeOf l counts size ≡ written text → Wrote (modelIn l counts) text
 unfolding writeOf wellFormedIn
-wrote l chains residues atoms size text e = go (wellFormedIn l chains residues atoms) refl e
+wrote l counts size text e = go (wellFormedIn l counts) refl e
   where
     m : Model
-    m = modelIn l chains residues atoms
+    m = modelIn l counts
 
     by-size : (t : Bool) → cond t (written (textOf m)) (refused (OutputTooShort (length (textOf m)))) ≡ written text → textOf m ≡ text
     by-size true e = cc
@@ -57,8 +58,8 @@ wrote l chains residues atoms size text e = go (wellFormedIn l chains residues a
     by-id zero f u e = record { formed = f; writable = u; same = by-size (leb (length (textOf m)) size) e }
     by-id (suc id) f u e = refused-not e
 
-    go : (t : Bool) → (countsFit l chains residues atoms && wellFormed m) ≡ t → cond t (writtenBut (firstUnwritable m 1 (m .atoms)) size m) (refused NotWellFormed) ≡ written text → Wrote m text
-    go true q e = by-id (firstUnwritable m 1 (m .atoms)) (right-of (countsFit l chains residues atoms) (wellFormed m) q) refl e
+    go : (t : Bool) → (countsFit l counts && wellFormed m) ≡ t → cond t (writtenBut (firstUnwritable m 1 (m .atoms)) size m) (refused NotWellFormed) ≡ written text → Wrote m text
+    go true q e = by-id (firstUnwritable m 1 (m .atoms)) (right-of (countsFit l counts) (wellFormed m) q) refl e
     go false q e = refused-not e
 
 -- ---- as many records
@@ -67,29 +68,29 @@ unfolding listFrom
 listed-long at i zero = refl
 listed-long at i (suc n) = ap suc (listed-long at (suc i) n)
 
-as-many : (l k : Lent) (chains residues atoms : ℕ) → countsFit k chains residues atoms ≡ true → AsMany (roomOf k) (modelIn l chains residues atoms)
+as-many : (l k : Lent) (counts : Room) → countsFit k counts ≡ true → AsMany (roomOf k) (modelIn l counts)
 unfolding countsFit modelIn
-as-many l k chains residues atoms e =
+as-many l k counts e =
     let room = roomOf k in
-    let c = leb chains (room .chains) in
-    let r = leb residues (room .residues) in
-    let a = leb atoms (room .atoms) in
+    let c = leb (counts .chains) (room .chains) in
+    let r = leb (counts .residues) (room .residues) in
+    let a = leb (counts .atoms) (room .atoms) in
     let two : (c && r) ≡ true = left-of (c && r) a e in
     record {
-      chains = omega (arith, length-take chains (l .chains), leb-true chains (room .chains) (left-of c r two));
-      residues = omega (arith, listed-long (residueIn l) 0 residues, leb-true residues (room .residues) (right-of c r two));
-      atoms = omega (arith, listed-long (atomIn l) 0 atoms, leb-true atoms (room .atoms) (right-of (c && r) a e));
+      chains = omega (arith, length-take (counts .chains) (l .chains), leb-true (counts .chains) (room .chains) (left-of c r two));
+      residues = omega (arith, listed-long (residueIn l) 0 (counts .residues), leb-true (counts .residues) (room .residues) (right-of c r two));
+      atoms = omega (arith, listed-long (atomIn l) 0 (counts .atoms), leb-true (counts .atoms) (room .atoms) (right-of (c && r) a e));
     }
 
 -- ---- the theorems
-module _ (l k : Lent) (chains residues atoms size : ℕ) (text : List ℕ) (e : writeOf l chains residues atoms size ≡ written text) (short : length text ≤ largest) (fit : countsFit k chains residues atoms ≡ true) where
-  pub written-is-read : readOf (roomOf k) text ≡ read (returned (modelIn l chains residues atoms)) (returnedCounts (modelIn l chains residues atoms))
+module _ (l k : Lent) (counts : Room) (size : ℕ) (text : List ℕ) (e : writeOf l counts size ≡ written text) (short : length text ≤ largest) (fit : countsFit k counts ≡ true) where
+  pub written-is-read : readOf (roomOf k) text ≡ read (returned (modelIn l counts)) (returnedCounts (modelIn l counts))
   written-is-read =
-      let w = wrote l chains residues atoms size text e in
+      let w = wrote l counts size text e in
       ap (readOf (roomOf k)) (sym (w .same))
-      ∙ return-trip (modelIn l chains residues atoms) (w .formed) (w .writable) (roomOf k) (as-many l k chains residues atoms fit) (subst (λ (t : List ℕ). length t ≤ largest) (sym (w .same)) short)
+      ∙ return-trip (modelIn l counts) (w .formed) (w .writable) (roomOf k) (as-many l k counts fit) (subst (λ (t : List ℕ). length t ≤ largest) (sym (w .same)) short)
 
   -- what `read` then answers and leaves
   pub read-leaves-it : (r : Answer) (after : Lent) → ReadBy k text r after
-      → (r ≡ Answer.Read (returnedCounts (modelIn l chains residues atoms))) × (after ≡ holding k (returned (modelIn l chains residues atoms)))
+      → (r ≡ Answer.Read (returnedCounts (modelIn l counts))) × (after ≡ holding k (returned (modelIn l counts)))
   read-leaves-it r after h = (h .0 ∙ ap answerOf written-is-read, h .1 ∙ ap (leftBy k) written-is-read)

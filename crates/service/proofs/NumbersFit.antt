@@ -56,7 +56,7 @@ module _ (l : Lent) (size : ℕ) (text : List ℕ) where
       many = counts-are-small (roomOf l) text m counts e
 
       short : Small (length (textOf m))
-      short = subst (λ (x : Model). Small (length (textOf x))) (held-model-is-read l m) (text-short (holding l m) _ _ _ (well-held l text m counts e))
+      short = subst (λ (x : Model). Small (length (textOf x))) (held-model-is-read l m) (text-short (holding l m) _ (well-held l text m counts e))
 
       by-size : (t : Bool) → All Small (numbersIn (answerOf (byWriting m counts (cond t (written (textOf m)) (writer.refused (OutputTooShort (length (textOf m))))))))
       by-size true = (omega arith, (omega arith, (short, (many .0, (many .1, (many .2, (many .3, tt)))))))

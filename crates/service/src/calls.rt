@@ -10,9 +10,10 @@ use serving::serve;
 use serving::serve_own;
 ghost use mathlib.Core.Path.{_≡_};
 ghost use Prim.Native.Nat.{_≤_};
-ghost use lib.ListN.{length, take};
-ghost use Rattle.chains.specs.Names.{namesIn};
-ghost use Rattle.model.specs.Lent.{lentOf};
+ghost use lib.ListN.{length};
+ghost use Rattle.chains.specs.Names.{firstAt, namesAt};
+ghost use Rattle.records.specs.Slice.{held};
+ghost use Rattle.model.specs.Lent.{lentBy};
 ghost use Rattle.service.specs.Results.{renewedIn, Calls, CallsOwn};
 
 // The host call's own refusal.
@@ -47,8 +48,8 @@ fn call_first(
     occupancies: &mut [f64],
 ) -> u32
     requires { ⌜ size ≤ length (now names) ⌝ }
-    ensures { λ r. ⌜ Calls (lentOf (take size (now (names .entry))) (now («residue_keys» .entry)) (now («residue_names» .entry)) (now («residue_codes» .entry)) (now («residue_categories» .entry)) (now («residue_positions» .entry)) (now («atom_keys» .entry)) (now («atom_names» .entry)) (now (elements .entry)) (now (positions .entry)) (now (occupancies .entry))) (now (text .entry)) (now (out .entry)) (now (result .entry)) r
-        (lentOf (take size (now (names .exit))) (now («residue_keys» .exit)) (now («residue_names» .exit)) (now («residue_codes» .exit)) (now («residue_categories» .exit)) (now («residue_positions» .exit)) (now («atom_keys» .exit)) (now («atom_names» .exit)) (now (elements .exit)) (now (positions .exit)) (now (occupancies .exit))) (now (out .exit)) (now (result .exit)) ⌝ }
+    ensures { λ r. ⌜ (let l = lentBy (firstAt size names) «residue_keys» «residue_names» «residue_codes» «residue_categories» «residue_positions» «atom_keys» «atom_names» elements positions occupancies in
+        let o = held out in let n = held result in Calls (l .entry) (now (text .entry)) (o .entry) (n .entry) r (l .exit) (o .exit) (n .exit)) ⌝ }
 {
     if !is_whole(result) {
         return BAD_RESULT;
@@ -90,8 +91,8 @@ fn call_into(
     positions: &mut [[f64; 3]],
     occupancies: &mut [f64],
 ) -> u32
-    ensures { λ r. ⌜ Calls (lentOf (take size (now (names .entry))) (now («residue_keys» .entry)) (now («residue_names» .entry)) (now («residue_codes» .entry)) (now («residue_categories» .entry)) (now («residue_positions» .entry)) (now («atom_keys» .entry)) (now («atom_names» .entry)) (now (elements .entry)) (now (positions .entry)) (now (occupancies .entry))) (now (text .entry)) (now (out .entry)) (now (result .entry)) r
-        (lentOf (take size (now (names .exit))) (now («residue_keys» .exit)) (now («residue_names» .exit)) (now («residue_codes» .exit)) (now («residue_categories» .exit)) (now («residue_positions» .exit)) (now («atom_keys» .exit)) (now («atom_names» .exit)) (now (elements .exit)) (now (positions .exit)) (now (occupancies .exit))) (now (out .exit)) (now (result .exit)) ⌝ }
+    ensures { λ r. ⌜ (let l = lentBy (firstAt size names) «residue_keys» «residue_names» «residue_codes» «residue_categories» «residue_positions» «atom_keys» «atom_names» elements positions occupancies in
+        let o = held out in let n = held result in Calls (l .entry) (now (text .entry)) (o .entry) (n .entry) r (l .exit) (o .exit) (n .exit)) ⌝ }
 {
     let size = chains::kept(size);
     call_first(
@@ -132,8 +133,8 @@ pub extern "C" fn structure_intake_lent(
     positions: &mut [[f64; 3]],
     occupancies: &mut [f64],
 ) -> u32
-    ensures { λ r. ⌜ Calls (lentOf (namesIn (now (chains .entry))) (now («residue_keys» .entry)) (now («residue_names» .entry)) (now («residue_codes» .entry)) (now («residue_categories» .entry)) (now («residue_positions» .entry)) (now («atom_keys» .entry)) (now («atom_names» .entry)) (now (elements .entry)) (now (positions .entry)) (now (occupancies .entry))) (now (text .entry)) (now (out .entry)) (now (result .entry)) r
-        (lentOf (namesIn (now (chains .exit))) (now («residue_keys» .exit)) (now («residue_names» .exit)) (now («residue_codes» .exit)) (now («residue_categories» .exit)) (now («residue_positions» .exit)) (now («atom_keys» .exit)) (now («atom_names» .exit)) (now (elements .exit)) (now (positions .exit)) (now (occupancies .exit))) (now (out .exit)) (now (result .exit)) ⌝ }
+    ensures { λ r. ⌜ (let l = lentBy (namesAt chains) «residue_keys» «residue_names» «residue_codes» «residue_categories» «residue_positions» «atom_keys» «atom_names» elements positions occupancies in
+        let o = held out in let n = held result in Calls (l .entry) (now (text .entry)) (o .entry) (n .entry) r (l .exit) (o .exit) (n .exit)) ⌝ }
 {
     let mut names = no_names();
     let size = chains.len();
@@ -162,7 +163,7 @@ pub extern "C" fn structure_intake_lent(
 // The service with records of its own.
 #[no_mangle]
 pub extern "C" fn structure_intake(text: &[u8], out: &mut [u8], result: &mut [u8]) -> u32
-    ensures { λ r. ⌜ CallsOwn (now (text .entry)) (now (out .entry)) (now (result .entry)) r (now (out .exit)) (now (result .exit)) ⌝ }
+    ensures { λ r. ⌜ (let o = held out in let n = held result in CallsOwn (now (text .entry)) (o .entry) (n .entry) r (o .exit) (n .exit)) ⌝ }
 {
     if !is_whole(result) {
         return BAD_RESULT;

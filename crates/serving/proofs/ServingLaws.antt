@@ -1,12 +1,14 @@
 -- What is served by the answers of the reading and of the writing: each of their cases is a case of the definition.
-use mathlib.Core.Path.{_≡_, refl, sym, ap, _∙_}
+use mathlib.Core.Path.{_≡_, refl, sym, ap, _∙_, subst}
 use mathlib.Core.List.{List}
 use Prim.Native.Nat.{ℕ}
 use native.Mathlib.Omega.{arith}
 use lib.ListN.{length}
+use Rattle.building.specs.Holds.{sizesOf}
 use Rattle.building.specs.declared.sites.Counts.{Counts}
 use Rattle.model.specs.Lent.{Lent, roomOf, holding, emptyModel}
 use Rattle.model.specs.Records.{Model}
+use Rattle.model.specs.declared.room.Room.{Room}
 use Rattle.reader.specs.Reading as reader
 use Rattle.reader.specs.Reading.{Reading, read, readOf}
 use Rattle.reader.specs.declared.answers.Answer.the-variants as read-answer
@@ -24,13 +26,16 @@ use Rattle.serving.proofs.WrittenAsRead.{written-as-read}
 -- ---- the writing
 module _ (l : Lent) (counts : Counts) (out : List ℕ) where
   abbrev writing : Writing
-  writing = writeOf l (counts .chains) (counts .residues) (counts .atoms) (length out)
+  writing = writeOf l (sizesOf counts) (length out)
 
   writes-as : {answer : Answer} {after : Lent} {bytes : List ℕ} (w : Writing) → writing ≡ w
       → answer ≡ writtenAnswer counts w → after ≡ leftWritten l w → bytes ≡ writer.leftBy out w → WritesOut l counts out answer after bytes
   writes-as w e a f b = record { answered = a ∙ sym (ap (writtenAnswer counts) e); left = f ∙ sym (ap (leftWritten l) e); written = b ∙ sym (ap (writer.leftBy out) e) }
 
-  module _ (r : writer-answer.Answer) (bytes : List ℕ) (wrote : Wrote out writing r bytes) where
+  module _ (sizes : Room) (counted : sizes ≡ sizesOf counts) (r : writer-answer.Answer) (bytes : List ℕ) (given : Wrote out (writeOf l sizes (length out)) r bytes) where
+    wrote : Wrote out writing r bytes
+    wrote = subst (λ (x : Room). Wrote out (writeOf l x (length out)) r bytes) counted given
+
     pub put-out : (n : ℕ) → r ≡ written-answer.Written n → WritesOut l counts out (Answer.Served n counts) l bytes
     put-out n e = go writing refl (wrote .answered) (wrote .left)
       where
@@ -93,7 +98,7 @@ module _ (l : Lent) (text out : List ℕ) where
       go (read m others) e a f =
           let same : others ≡ counts = cc in
           let e : reading ≡ read m counts = e ∙ ap (read m) same in
-          let w = ap (λ (x : Lent). writeOf x (counts .chains) (counts .residues) (counts .atoms) (length out)) f ∙ written-as-read l text m counts e out in
+          let w = ap (λ (x : Lent). writeOf x (sizesOf counts) (length out)) f ∙ written-as-read l text m counts e out in
           let size = length out in
           serves-as (read m counts) e
           (writes .answered ∙ ap (writtenAnswer counts) w ∙ answered-as m (writingOf size m))

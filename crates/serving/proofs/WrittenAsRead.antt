@@ -7,9 +7,10 @@ use native.Mathlib.Omega.{arith}
 use lib.Dec.{leb}
 use lib.ListN.{length, length-map}
 use borrow.Author.Tests.{le-leb}
+use Rattle.building.specs.Holds.{sizesOf}
 use Rattle.building.specs.declared.sites.Counts.{Counts}
 use Rattle.model.specs.Finished.{atomRecord, classified, positioned}
-use Rattle.model.specs.Lent.{Lent, roomOf, holding}
+use Rattle.model.specs.Lent.{Lent, roomOf, holding, sizesIn}
 use Rattle.model.specs.Records.{Model}
 use Rattle.model.specs.WellFormed.{countsFit, wellFormedIn}
 use Rattle.model.proofs.HeldModelIsRead.{held-model-is-read, well-formed-there}
@@ -48,7 +49,7 @@ module _ (l : Lent) (text : List ℕ) (m : Model) (counts : Counts) (e : readOf 
         omega (arith, fits .atoms, atoms, ap (λ (c : Counts). c .atoms) counts-are),
       )
 
-  fit : countsFit l (length (m .chains)) (length (m .residues)) (length (m .atoms)) ≡ true
+  fit : countsFit l (sizesIn m) ≡ true
   unfolding countsFit
   fit =
       let chains = leb (length (m .chains)) (roomOf l .chains) in
@@ -56,12 +57,12 @@ module _ (l : Lent) (text : List ℕ) (m : Model) (counts : Counts) (e : readOf 
       let atoms = leb (length (m .atoms)) (roomOf l .atoms) in
       both (chains && residues) atoms (both chains residues (le-leb _ _ (within .0)) (le-leb _ _ (within .1))) (le-leb _ _ (within .2))
 
-  pub well-held : wellFormedIn (holding l m) (length (m .chains)) (length (m .residues)) (length (m .atoms)) ≡ true
+  pub well-held : wellFormedIn (holding l m) (sizesIn m) ≡ true
   well-held = well-formed-there l m fit ∙ read-is-well-formed (roomOf l) text m counts e
 
   -- ---- the theorem
-  pub written-as-read : (out : List ℕ) → writeOf (holding l m) (counts .chains) (counts .residues) (counts .atoms) (length out) ≡ writingOf (length out) m
+  pub written-as-read : (out : List ℕ) → writeOf (holding l m) (sizesOf counts) (length out) ≡ writingOf (length out) m
   written-as-read out =
-      (λ i. writeOf (holding l m) (counted .0 i) (counted .1 i) (counted .2 i) (length out))
-      ∙ sym (well-formed out (holding l m) (length (m .chains)) (length (m .residues)) (length (m .atoms)) well-held)
+      (λ i. writeOf (holding l m) (record { chains = counted .0 i; residues = counted .1 i; atoms = counted .2 i }) (length out))
+      ∙ sym (well-formed out (holding l m) (sizesIn m) well-held)
       ∙ ap (writingOf (length out)) (held-model-is-read l m)

@@ -4,6 +4,7 @@ use mathlib.Core.List.{List}
 use Prim.Native.Nat.{ℕ}
 use lib.ListN.{length}
 use lib.Seq.{sets}
+use Rattle.building.specs.Holds.{sizesOf}
 use Rattle.building.specs.declared.sites.Counts.{Counts}
 use Rattle.model.specs.Lent.{Lent, roomOf, holding, emptyModel}
 use Rattle.model.specs.Records.{Model}
@@ -74,9 +75,9 @@ leftWritten l (written text) = l
 leftWritten l (writer.refused why) = holding l emptyModel
 
 pub record WritesOut (l : Lent) (counts : Counts) (out : List ℕ) (answer : Answer) (after : Lent) (bytes : List ℕ) : Type 0 where
-  pub answered : answer ≡ writtenAnswer counts (writeOf l (counts .chains) (counts .residues) (counts .atoms) (length out))
-  pub left : after ≡ leftWritten l (writeOf l (counts .chains) (counts .residues) (counts .atoms) (length out))
-  pub written : bytes ≡ writer.leftBy out (writeOf l (counts .chains) (counts .residues) (counts .atoms) (length out))
+  pub answered : answer ≡ writtenAnswer counts (writeOf l (sizesOf counts) (length out))
+  pub left : after ≡ leftWritten l (writeOf l (sizesOf counts) (length out))
+  pub written : bytes ≡ writer.leftBy out (writeOf l (sizesOf counts) (length out))
 
 -- ---- document 01's number, line and detail
 

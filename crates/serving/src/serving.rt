@@ -2,9 +2,12 @@
 use crate::answers::Answer;
 use crate::refusals::Refusal;
 use building::Counts;
+use building::sizes_of;
 use finishing::clear_records;
+use model::Room;
 use writer::write_by_names;
-ghost use Rattle.model.specs.Lent.{lentOf};
+ghost use Rattle.records.specs.Slice.{held};
+ghost use Rattle.model.specs.Lent.{lent};
 ghost use Rattle.serving.specs.Serving.{Serves, WritesOut};
 
 // The model in the records written; on a refusal the records are cleared.
@@ -23,8 +26,8 @@ fn write_out(
     occupancies: &mut [f64],
     counts: Counts,
 ) -> Answer
-    ensures { λ r. ⌜ WritesOut (lentOf (now (chains .entry)) (now («residue_keys» .entry)) (now («residue_names» .entry)) (now («residue_codes» .entry)) (now («residue_categories» .entry)) (now («residue_positions» .entry)) (now («atom_keys» .entry)) (now («atom_names» .entry)) (now (elements .entry)) (now (positions .entry)) (now (occupancies .entry))) counts (now (out .entry)) r
-        (lentOf (now (chains .exit)) (now («residue_keys» .exit)) (now («residue_names» .exit)) (now («residue_codes» .exit)) (now («residue_categories» .exit)) (now («residue_positions» .exit)) (now («atom_keys» .exit)) (now («atom_names» .exit)) (now (elements .exit)) (now (positions .exit)) (now (occupancies .exit))) (now (out .exit)) ⌝ }
+    ensures { λ r. ⌜ (let l = lent chains «residue_keys» «residue_names» «residue_codes» «residue_categories» «residue_positions» «atom_keys» «atom_names» elements positions occupancies in
+        let o = held out in WritesOut (l .entry) counts (o .entry) r (l .exit) (o .exit)) ⌝ }
 {
     let written = write_by_names(
         chains,
@@ -38,9 +41,7 @@ fn write_out(
         elements,
         positions,
         occupancies,
-        counts.chains,
-        counts.residues,
-        counts.atoms,
+        sizes_of(counts),
         out,
     );
     match written {
@@ -61,9 +62,11 @@ fn write_out(
                 elements,
                 positions,
                 occupancies,
-                0,
-                0,
-                0,
+                Room {
+                    chains: 0,
+                    residues: 0,
+                    atoms: 0,
+                },
             );
             Answer::Refused(Refusal::Unwritten(why))
         }
@@ -86,8 +89,8 @@ pub fn serve(
     positions: &mut [[f64; 3]],
     occupancies: &mut [f64],
 ) -> Answer
-    ensures { λ r. ⌜ Serves (lentOf (now (chains .entry)) (now («residue_keys» .entry)) (now («residue_names» .entry)) (now («residue_codes» .entry)) (now («residue_categories» .entry)) (now («residue_positions» .entry)) (now («atom_keys» .entry)) (now («atom_names» .entry)) (now (elements .entry)) (now (positions .entry)) (now (occupancies .entry))) (now (text .entry)) (now (out .entry)) r
-        (lentOf (now (chains .exit)) (now («residue_keys» .exit)) (now («residue_names» .exit)) (now («residue_codes» .exit)) (now («residue_categories» .exit)) (now («residue_positions» .exit)) (now («atom_keys» .exit)) (now («atom_names» .exit)) (now (elements .exit)) (now (positions .exit)) (now (occupancies .exit))) (now (out .exit)) ⌝ }
+    ensures { λ r. ⌜ (let l = lent chains «residue_keys» «residue_names» «residue_codes» «residue_categories» «residue_positions» «atom_keys» «atom_names» elements positions occupancies in
+        let o = held out in Serves (l .entry) (now (text .entry)) (o .entry) r (l .exit) (o .exit)) ⌝ }
 {
     let answer = reader::read_by_names(
         text,

@@ -28,5 +28,5 @@ numbersOf answer = numberIn answer ∷ detailIn answer ∷ writtenIn answer ∷ 
 -- the numbers go to the front of their slice, as far as it reaches
 abbrev pub WrittenInto : Lent → ℕ → ℕ → ℕ → List ℕ → List ℕ → List ℕ → List ℕ → Type 0
 WrittenInto l chains residues atoms out before after numbers =
-    let writing = writeOf l chains residues atoms (length out) in
+    let writing = writeOf l (record { chains = chains; residues = residues; atoms = atoms }) (length out) in
     (numbers ≡ sets before 0 (numbersOf (answerOf writing))) × (after ≡ leftBy out writing)

@@ -5,8 +5,8 @@ use reader::Answer;
 use records::store_u64;
 ghost use mathlib.Core.Path.{_≡_};
 ghost use lib.Seq.{sets};
-ghost use Rattle.chains.specs.Names.{namesIn};
-ghost use Rattle.model.specs.Lent.{lentOf};
+ghost use Rattle.chains.specs.Names.{namesAt};
+ghost use Rattle.model.specs.Lent.{lentBy};
 ghost use Rattle.structures.specs.Readings.{numberIn, lineIn, detailIn, countsIn, numbersOf, ReadInto};
 
 fn number_in(answer: Answer) -> u8
@@ -86,8 +86,8 @@ pub extern "C" fn probe_read(
     positions: &mut [[f64; 3]],
     occupancies: &mut [f64],
 )
-    ensures { λ _. ⌜ ReadInto (lentOf (namesIn (now (chains .entry))) (now («residue_keys» .entry)) (now («residue_names» .entry)) (now («residue_codes» .entry)) (now («residue_categories» .entry)) (now («residue_positions» .entry)) (now («atom_keys» .entry)) (now («atom_names» .entry)) (now (elements .entry)) (now (positions .entry)) (now (occupancies .entry))) (now (text .entry)) (now (numbers .entry)) (now (numbers .exit))
-        (lentOf (namesIn (now (chains .exit))) (now («residue_keys» .exit)) (now («residue_names» .exit)) (now («residue_codes» .exit)) (now («residue_categories» .exit)) (now («residue_positions» .exit)) (now («atom_keys» .exit)) (now («atom_names» .exit)) (now (elements .exit)) (now (positions .exit)) (now (occupancies .exit))) ⌝ }
+    ensures { λ _. ⌜ (let l = lentBy (namesAt chains) «residue_keys» «residue_names» «residue_codes» «residue_categories» «residue_positions» «atom_keys» «atom_names» elements positions occupancies in
+        ReadInto (l .entry) (now (text .entry)) (now (numbers .entry)) (now (numbers .exit)) (l .exit)) ⌝ }
 {
     let answer = lent::read(
         text,

@@ -4,8 +4,8 @@ use records::store_u64;
 use writer::Answer;
 ghost use mathlib.Core.Path.{_≡_};
 ghost use lib.Seq.{sets};
-ghost use Rattle.chains.specs.Names.{namesIn};
-ghost use Rattle.model.specs.Lent.{lentOf};
+ghost use Rattle.chains.specs.Names.{namesAt};
+ghost use Rattle.model.specs.Lent.{lentBy};
 ghost use Rattle.structures.specs.Writings.{numberIn, detailIn, writtenIn, numbersOf, WrittenInto};
 
 fn number_in(answer: Answer) -> u8
@@ -63,7 +63,8 @@ pub extern "C" fn probe_write(
     atom_count: usize,
     out: &mut [u8],
 )
-    ensures { λ _. ⌜ WrittenInto (lentOf (namesIn (now (chains .entry))) (now («residue_keys» .entry)) (now («residue_names» .entry)) (now («residue_codes» .entry)) (now («residue_categories» .entry)) (now («residue_positions» .entry)) (now («atom_keys» .entry)) (now («atom_names» .entry)) (now (elements .entry)) (now (positions .entry)) (now (occupancies .entry))) «chain_count» «residue_count» «atom_count» (now (out .entry)) (now (numbers .entry)) (now (out .exit)) (now (numbers .exit)) ⌝ }
+    ensures { λ _. ⌜ (let l = lentBy (namesAt chains) «residue_keys» «residue_names» «residue_codes» «residue_categories» «residue_positions» «atom_keys» «atom_names» elements positions occupancies .entry in
+        WrittenInto l «chain_count» «residue_count» «atom_count» (now (out .entry)) (now (numbers .entry)) (now (out .exit)) (now (numbers .exit))) ⌝ }
 {
     let answer = lent::write_structure(
         chains,

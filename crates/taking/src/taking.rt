@@ -17,7 +17,7 @@ ghost use Rattle.lines.specs.Lines.{linesOf};
 ghost use Rattle.states.specs.Heads.{startHeads};
 ghost use Rattle.model.specs.Fold.{start};
 ghost use Rattle.building.specs.Gaps.{noneHeld};
-ghost use Rattle.building.specs.Holds.{recordsOf};
+ghost use Rattle.building.specs.Holds.{records};
 ghost use Rattle.taking.specs.declared.plans.Act.the-variants.{Keep};
 ghost use Rattle.taking.specs.Lines.{linesRead};
 ghost use Rattle.taking.specs.Standing.{actedBy, onwardTo, Acts, Takes, Passes, Reads, ahead};
@@ -99,8 +99,8 @@ fn put_at(
     held: Held,
     site: Site,
 ) -> Acted
-    ensures { λ r. ⌜ Acts (recordsOf (now (chains .entry)) (now («residue_keys» .entry)) (now («residue_names» .entry)) (now («residue_marks» .entry)) (now («atom_keys» .entry)) (now («atom_names» .entry)) (now (elements .entry)) (now (positions .entry)) (now (occupancies .entry))) room number held (Keep site) r
-        (recordsOf (now (chains .exit)) (now («residue_keys» .exit)) (now («residue_names» .exit)) (now («residue_marks» .exit)) (now («atom_keys» .exit)) (now («atom_names» .exit)) (now (elements .exit)) (now (positions .exit)) (now (occupancies .exit))) ⌝ }
+    ensures { λ r. ⌜ (let l = records chains «residue_keys» «residue_names» «residue_marks» «atom_keys» «atom_names» elements positions occupancies in
+        Acts (l .entry) room number held (Keep site) r (l .exit)) ⌝ }
 {
     let put = put_site(
         chains,
@@ -134,8 +134,8 @@ fn do_act(
     held: Held,
     act: Act,
 ) -> Acted
-    ensures { λ r. ⌜ Acts (recordsOf (now (chains .entry)) (now («residue_keys» .entry)) (now («residue_names» .entry)) (now («residue_marks» .entry)) (now («atom_keys» .entry)) (now («atom_names» .entry)) (now (elements .entry)) (now (positions .entry)) (now (occupancies .entry))) room number held act r
-        (recordsOf (now (chains .exit)) (now («residue_keys» .exit)) (now («residue_names» .exit)) (now («residue_marks» .exit)) (now («atom_keys» .exit)) (now («atom_names» .exit)) (now (elements .exit)) (now (positions .exit)) (now (occupancies .exit))) ⌝ }
+    ensures { λ r. ⌜ (let l = records chains «residue_keys» «residue_names» «residue_marks» «atom_keys» «atom_names» elements positions occupancies in
+        Acts (l .entry) room number held act r (l .exit)) ⌝ }
 {
     match act {
         Act::Pass => Acted {
@@ -183,8 +183,8 @@ fn take_line(
     from: Stage,
     line: &[u8],
 ) -> Stage
-    ensures { λ r. ⌜ Takes (recordsOf (now (chains .entry)) (now («residue_keys» .entry)) (now («residue_names» .entry)) (now («residue_marks» .entry)) (now («atom_keys» .entry)) (now («atom_names» .entry)) (now (elements .entry)) (now (positions .entry)) (now (occupancies .entry))) room number from (now (line .entry)) r
-        (recordsOf (now (chains .exit)) (now («residue_keys» .exit)) (now («residue_names» .exit)) (now («residue_marks» .exit)) (now («atom_keys» .exit)) (now («atom_names» .exit)) (now (elements .exit)) (now (positions .exit)) (now (occupancies .exit))) ⌝ }
+    ensures { λ r. ⌜ (let l = records chains «residue_keys» «residue_names» «residue_marks» «atom_keys» «atom_names» elements positions occupancies in
+        Takes (l .entry) room number from (now (line .entry)) r (l .exit)) ⌝ }
 {
     let heads = from.heads;
     let held = from.held;
@@ -236,8 +236,8 @@ fn take_lines(
     occupancies: &mut [f64],
     room: Room,
 ) -> Stage
-    ensures { λ r. ⌜ Passes (recordsOf (now (chains .entry)) (now («residue_keys» .entry)) (now («residue_names» .entry)) (now («residue_marks» .entry)) (now («atom_keys» .entry)) (now («atom_names» .entry)) (now (elements .entry)) (now (positions .entry)) (now (occupancies .entry))) room (ahead halt (linesRead room 1 startHeads start (linesOf (now (text .entry))))) r
-        (recordsOf (now (chains .exit)) (now («residue_keys» .exit)) (now («residue_names» .exit)) (now («residue_marks» .exit)) (now («atom_keys» .exit)) (now («atom_names» .exit)) (now (elements .exit)) (now (positions .exit)) (now (occupancies .exit))) ⌝ }
+    ensures { λ r. ⌜ (let l = records chains «residue_keys» «residue_names» «residue_marks» «atom_keys» «atom_names» elements positions occupancies in
+        Passes (l .entry) room (ahead halt (linesRead room 1 startHeads start (linesOf (now (text .entry))))) r (l .exit)) ⌝ }
 {
     let heads = states::start_heads();
     let held = none_held();
@@ -284,8 +284,8 @@ pub fn read_lines(
     occupancies: &mut [f64],
     room: Room,
 ) -> Standing
-    ensures { λ r. ⌜ Reads (recordsOf (now (chains .entry)) (now («residue_keys» .entry)) (now («residue_names» .entry)) (now («residue_marks» .entry)) (now («atom_keys» .entry)) (now («atom_names» .entry)) (now (elements .entry)) (now (positions .entry)) (now (occupancies .entry))) room (ahead halt (linesRead room 1 startHeads start (linesOf (now (text .entry))))) r
-        (recordsOf (now (chains .exit)) (now («residue_keys» .exit)) (now («residue_names» .exit)) (now («residue_marks» .exit)) (now («atom_keys» .exit)) (now («atom_names» .exit)) (now (elements .exit)) (now (positions .exit)) (now (occupancies .exit))) ⌝ }
+    ensures { λ r. ⌜ (let l = records chains «residue_keys» «residue_names» «residue_marks» «atom_keys» «atom_names» elements positions occupancies in
+        Reads (l .entry) room (ahead halt (linesRead room 1 startHeads start (linesOf (now (text .entry))))) r (l .exit)) ⌝ }
 {
     let stage = take_lines(
         text,

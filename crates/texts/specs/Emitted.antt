@@ -5,13 +5,19 @@ use Prim.Native.Nat.{ℕ, _+_, _^_, _≤_, _<_}
 use mathlib.Core.List.{List}
 use lib.ListN.{length}
 use lib.Seq.{sets}
+use denote.Ref.{now}
 use Rattle.ascii.specs.declared.output.Placed.{Placed}
 use Rattle.ascii.specs.declared.output.Placed.the-variants.{Next, NoRoom}
+use Rattle.records.specs.Slice.{Slice}
 
 pub record Emitted (out : List ℕ) (at : ℕ) (text : List ℕ) (next : ℕ) (after : List ℕ) : Type 0 where
   pub place : at + length text < 2 ^ 64 → next ≡ at + length text
   pub same : length after ≡ length out
   pub bytes : at + length text ≤ length out → after ≡ sets out at text
+
+-- the same of a lent buffer
+abbrev pub Emits : Slice ℕ → ℕ → List ℕ → ℕ → Type 0
+Emits out at text next = Emitted (now (out .entry)) at text next (now (out .exit))
 
 -- the place after a text, by what became of it
 unfoldable pub placeAfter : ℕ → Placed → ℕ

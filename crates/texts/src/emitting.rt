@@ -3,7 +3,7 @@ use ascii::Placed;
 ghost use mathlib.Core.Path.{_≡_};
 ghost use mathlib.Core.List.{[], _∷_};
 ghost use Prim.Native.Nat.{_+_, _^_, _<_};
-ghost use Rattle.texts.specs.Emitted.{Emitted, placeAfter};
+ghost use Rattle.texts.specs.Emitted.{Emits, placeAfter};
 
 const LAST: usize = 0xffff_ffff_ffff_ffff;
 
@@ -27,7 +27,7 @@ pub(crate) fn place_after(at: usize, placed: Placed) -> usize
 }
 
 pub(crate) fn put_byte(out: &mut [u8], at: usize, b: u8) -> usize
-    ensures { λ r. ⌜ Emitted (now (out .entry)) at (b ∷ []) r (now (out .exit)) ⌝ }
+    ensures { λ r. ⌜ Emits out at (b ∷ []) r ⌝ }
 {
     if out.len() <= at {
         return place_on(at, 1);
@@ -38,7 +38,7 @@ pub(crate) fn put_byte(out: &mut [u8], at: usize, b: u8) -> usize
 
 // A word as it is.
 pub fn put_word(out: &mut [u8], at: usize, word: &[u8]) -> usize
-    ensures { λ r. ⌜ Emitted (now (out .entry)) at (now (word .entry)) r (now (out .exit)) ⌝ }
+    ensures { λ r. ⌜ Emits out at (now (word .entry)) r ⌝ }
 {
     if !ascii::fits_at(out.len(), at, word.len()) {
         return place_on(at, word.len());

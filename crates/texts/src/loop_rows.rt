@@ -15,7 +15,7 @@ ghost use mathlib.Core.Bool.{true};
 ghost use lib.ListN.{length, take, drop};
 ghost use Rattle.tokens.specs.Line.{spaced};
 ghost use Rattle.model.specs.WellFormed.{isNear};
-ghost use Rattle.texts.specs.Emitted.{Emitted};
+ghost use Rattle.texts.specs.Emitted.{Emits};
 ghost use Rattle.texts.specs.Rows.{blanked, atomFields, lineText, atomText, polymerText};
 
 // What a row of the atom loop says.
@@ -44,7 +44,7 @@ pub struct PolymerRow {
 
 // Its first seven fields, a blank after each.
 fn put_labels(out: &mut [u8], at: usize, row: AtomRow) -> usize
-    ensures { λ r. ⌜ Emitted (now (out .entry)) at (blanked (take 7 (atomFields row))) r (now (out .exit)) ⌝ }
+    ensures { λ r. ⌜ Emits out at (blanked (take 7 (atomFields row))) r ⌝ }
 {
     let at = put_group(out, at, row.polymer);
     let at = put_byte(out, at, b' ');
@@ -65,7 +65,7 @@ fn put_labels(out: &mut [u8], at: usize, row: AtomRow) -> usize
 
 // The three fields after them, a blank after each.
 fn put_numbering(out: &mut [u8], at: usize, row: AtomRow) -> usize
-    ensures { λ r. ⌜ Emitted (now (out .entry)) at (blanked (take 3 (drop 7 (atomFields row)))) r (now (out .exit)) ⌝ }
+    ensures { λ r. ⌜ Emits out at (blanked (take 3 (drop 7 (atomFields row)))) r ⌝ }
 {
     let at = put_decimal(out, at, row.entity);
     let at = put_byte(out, at, b' ');
@@ -77,7 +77,7 @@ fn put_numbering(out: &mut [u8], at: usize, row: AtomRow) -> usize
 
 // The coordinates, a blank after each.
 fn put_position(out: &mut [u8], at: usize, row: AtomRow) -> usize
-    ensures { λ r. ⌜ (isNear (row .position) ≡ true → Emitted (now (out .entry)) at (blanked (take 3 (drop 10 (atomFields row)))) r (now (out .exit))) ⌝ }
+    ensures { λ r. ⌜ (isNear (row .position) ≡ true → Emits out at (blanked (take 3 (drop 10 (atomFields row)))) r) ⌝ }
 {
     let at = put_coordinate(out, at, row.position.x);
     let at = put_byte(out, at, b' ');
@@ -89,7 +89,7 @@ fn put_position(out: &mut [u8], at: usize, row: AtomRow) -> usize
 
 // The last six fields, and the end of the line.
 fn put_author(out: &mut [u8], at: usize, row: AtomRow) -> usize
-    ensures { λ r. ⌜ Emitted (now (out .entry)) at (lineText (spaced (drop 13 (atomFields row)))) r (now (out .exit)) ⌝ }
+    ensures { λ r. ⌜ Emits out at (lineText (spaced (drop 13 (atomFields row)))) r ⌝ }
 {
     // The occupancy and B.
     let at = put_word(out, at, b"1.00");
@@ -108,7 +108,7 @@ fn put_author(out: &mut [u8], at: usize, row: AtomRow) -> usize
 
 // Every coordinate has a text where the position is near enough, as in every well-formed model; else only the buffer's length is promised.
 pub fn put_atom_row(out: &mut [u8], at: usize, row: AtomRow) -> usize
-    ensures { λ r. ⌜ (isNear (row .position) ≡ true → Emitted (now (out .entry)) at (atomText row) r (now (out .exit))) × (length (now (out .exit)) ≡ length (now (out .entry))) ⌝ }
+    ensures { λ r. ⌜ (isNear (row .position) ≡ true → Emits out at (atomText row) r) × (length (now (out .exit)) ≡ length (now (out .entry))) ⌝ }
 {
     let at = put_labels(out, at, row);
     let at = put_numbering(out, at, row);
@@ -117,7 +117,7 @@ pub fn put_atom_row(out: &mut [u8], at: usize, row: AtomRow) -> usize
 }
 
 pub fn put_polymer_row(out: &mut [u8], at: usize, row: PolymerRow) -> usize
-    ensures { λ r. ⌜ Emitted (now (out .entry)) at (polymerText row) r (now (out .exit)) ⌝ }
+    ensures { λ r. ⌜ Emits out at (polymerText row) r ⌝ }
 {
     let at = put_decimal(out, at, row.entity);
     let at = put_byte(out, at, b' ');

@@ -16,6 +16,7 @@ use Rattle.model.specs.Lent.{Lent, roomOf, residueIn, atomIn, listFrom, modelIn
 use Rattle.model.specs.Lists.{All}
 use Rattle.model.specs.Records.{ResidueRecord, AtomRecord, Model}
 use Rattle.model.specs.Termini.{ruledPosition}
+use Rattle.model.specs.declared.room.Room.{Room}
 use Rattle.ascii.specs.Lists.{every}
 use Rattle.model.specs.WellFormed.{sameList, runsOf, isName, isCode, isNear, chainsWell, classWell, residueWell, atomWell, inRuns, inOrder, wellFormed, countsFit, wellFormedIn}
 use Rattle.model.proofs.ListLaws.{left-of, right-of, all-map}
@@ -44,19 +45,28 @@ module _ {S : Type 0} where
   every-all p (s ∷ l) e = (left-of (p s) (every p l) e, every-all p l (right-of (p s) (every p l) e))
 
 -- ---- the counts
-abbrev pub WithinOf : Lent → ℕ → ℕ → ℕ → Type 0
+abbrev pub WithinOf : Lent → Room → Type 0
 WithinOf l = Within (l .chains) (l .residueKeys) (l .residueNames) (l .residueCodes) (l .residueCategories) (l .residuePositions) (l .atomKeys) (l .atomNames) (l .elements) (l .positions)
 
 below-all : (n most a b c d e : ℕ) → n ≤ min most (min a (min b (min c (min d e)))) → (n ≤ a) × (n ≤ b) × (n ≤ c) × (n ≤ d) × (n ≤ e)
 below-all n most a b c d e h = (omega arith, omega arith, omega arith, omega arith, omega arith)
 
-module _ (l : Lent) (chains residues atoms : ℕ) where
-  abbrev fits : Bool
-  fits = countsFit l chains residues atoms
+module _ (l : Lent) (counts : Room) where
+  abbrev chains : ℕ
+  chains = counts .chains
 
-  pub within : fits ≡ true → WithinOf l chains residues atoms
+  abbrev residues : ℕ
+  residues = counts .residues
+
+  abbrev atoms : ℕ
+  atoms = counts .atoms
+
+  abbrev fits : Bool
+  fits = countsFit l counts
+
+  pub within-all : fits ≡ true → WithinOf l counts
   unfolding countsFit roomOf
-  within e =
+  within-all e =
       let both = left-of (leb chains (roomOf l .chains) && leb residues (roomOf l .residues)) (leb atoms (roomOf l .atoms)) e in
       let c = leb-true chains (roomOf l .chains) (left-of (leb chains (roomOf l .chains)) (leb residues (roomOf l .residues)) both) in
       let r = below-all residues 65536 (length (l .residueKeys)) (length (l .residueNames)) (length (l .residueCodes)) (length (l .residueCategories)) (length (l .residuePositions))
@@ -94,7 +104,7 @@ module _ (l : Lent) (chains residues atoms : ℕ) where
 
   -- ---- the model in the slices
   abbrev model : Model
-  model = modelIn l chains residues atoms
+  model = modelIn l counts
 
   abbrev theResidues : List ResidueRecord
   theResidues = listFrom (residueIn l) 0 residues
@@ -133,7 +143,7 @@ module _ (l : Lent) (chains residues atoms : ℕ) where
       every-both (λ r. isNamed r && classWell theAtoms r) isPlaced theResidues
       ∙ ap (λ (t : Bool). t && every isPlaced theResidues) (every-both isNamed (classWell theAtoms) theResidues)
 
-  module _ (w : WithinOf l chains residues atoms) (runs : runsTested ≡ true) (order : orderTested ≡ true) (named : atomsTested ≡ true) where
+  module _ (w : WithinOf l counts) (runs : runsTested ≡ true) (order : orderTested ≡ true) (named : atomsTested ≡ true) where
     ascending : ascends (map (λ r. r .key) theResidues) ≡ true
     ascending = ap ascends (map-from (λ r. r .key) (residueIn l) 0 residues) ∙ left-of _ _ order
 
@@ -168,7 +178,7 @@ module _ (l : Lent) (chains residues atoms : ℕ) where
 
   -- ---- all of it
   abbrev whole : Bool
-  whole = wellFormedIn l chains residues atoms
+  whole = wellFormedIn l counts
 
   abbrev each : Bool
   each = every (residueWell model) (model .residues)
@@ -182,7 +192,7 @@ module _ (l : Lent) (chains residues atoms : ℕ) where
     unfolding wellFormedIn wellFormed modelIn
     all-five =
         ap (λ (t : Bool). t && wellFormed model) fit
-        ∙ ap (λ (t : Bool). chainsTested && t && inOrder model && each && every atomWell (model .atoms)) (sym (runs-are (within fit .ofChains)))
+        ∙ ap (λ (t : Bool). chainsTested && t && inOrder model && each && every atomWell (model .atoms)) (sym (runs-are (within-all fit .ofChains)))
         ∙ ap (λ (t : Bool). chainsTested && runsTested && t && each && every atomWell (model .atoms)) (sym order-is)
         ∙ ap (λ (t : Bool). chainsTested && runsTested && orderTested && each && t) (sym atoms-are)
 
@@ -194,4 +204,4 @@ module _ (l : Lent) (chains residues atoms : ℕ) where
         go true false o a f g h = refl
         go true true false a f g h = refl
         go true true true false f g h = sym (and-false each)
-        go true true true true f g h = sym (and-true each ∙ residues-are (within fit) f g h)
+        go true true true true f g h = sym (and-true each ∙ residues-are (within-all fit) f g h)

@@ -9,6 +9,7 @@ use Rattle.ascii.specs.Bytes.{bytes}
 use Rattle.names.specs.Packing.{packed}
 use Rattle.names.specs.Places.{ascends}
 use Rattle.records.specs.Clearing.{zeroPoint}
+use Rattle.model.specs.declared.room.Room.{Room}
 use Rattle.model.specs.declared.classes.Class.{Class}
 use Rattle.model.specs.Keys.{atomPlace, chainPart, codePart}
 use Rattle.model.specs.Lent.{pointOf, listFrom}
@@ -73,22 +74,22 @@ atomsWell names elements positions atoms = every (λ i. isAtomWell (entries name
 -- ---- the whole, where the counts are within the slices
 
 pub record Within (chains residueKeys residueNames residueCodes residueCategories residuePositions atomKeys atomNames elements : List ℕ) (positions : List (List Float))
-    (chainCount residueCount atomCount : ℕ) : Type 0 where
-  pub ofChains : chainCount ≤ length chains
-  pub ofResidueKeys : residueCount ≤ length residueKeys
-  pub ofResidueNames : residueCount ≤ length residueNames
-  pub ofResidueCodes : residueCount ≤ length residueCodes
-  pub ofResidueCategories : residueCount ≤ length residueCategories
-  pub ofResiduePositions : residueCount ≤ length residuePositions
-  pub ofAtomKeys : atomCount ≤ length atomKeys
-  pub ofAtomNames : atomCount ≤ length atomNames
-  pub ofElements : atomCount ≤ length elements
-  pub ofPositions : atomCount ≤ length positions
+    (counts : Room) : Type 0 where
+  pub ofChains : counts .chains ≤ length chains
+  pub ofResidueKeys : counts .residues ≤ length residueKeys
+  pub ofResidueNames : counts .residues ≤ length residueNames
+  pub ofResidueCodes : counts .residues ≤ length residueCodes
+  pub ofResidueCategories : counts .residues ≤ length residueCategories
+  pub ofResiduePositions : counts .residues ≤ length residuePositions
+  pub ofAtomKeys : counts .atoms ≤ length atomKeys
+  pub ofAtomNames : counts .atoms ≤ length atomNames
+  pub ofElements : counts .atoms ≤ length elements
+  pub ofPositions : counts .atoms ≤ length positions
 
-abbrev pub recordsWell : List ℕ → List ℕ → List ℕ → List ℕ → List ℕ → List ℕ → List ℕ → List ℕ → List ℕ → List (List Float) → ℕ → ℕ → ℕ → Bool
-recordsWell chains residueKeys residueNames residueCodes residueCategories residuePositions atomKeys atomNames elements positions chainCount residueCount atomCount =
-    chainsWell (take chainCount chains)
-    && (chainsRun residueKeys chainCount residueCount && residuesRun residueKeys atomKeys residueCount atomCount)
-    && (residuesAscend residueKeys residueCount && atomsAscend atomKeys atomNames atomCount)
-    && atomsWell atomNames elements positions atomCount
-    && residuesWell residueKeys residueNames residueCodes residueCategories residuePositions atomKeys residueCount atomCount
+abbrev pub recordsWell : List ℕ → List ℕ → List ℕ → List ℕ → List ℕ → List ℕ → List ℕ → List ℕ → List ℕ → List (List Float) → Room → Bool
+recordsWell chains residueKeys residueNames residueCodes residueCategories residuePositions atomKeys atomNames elements positions counts =
+    chainsWell (take (counts .chains) chains)
+    && (chainsRun residueKeys (counts .chains) (counts .residues) && residuesRun residueKeys atomKeys (counts .residues) (counts .atoms))
+    && (residuesAscend residueKeys (counts .residues) && atomsAscend atomKeys atomNames (counts .atoms))
+    && atomsWell atomNames elements positions (counts .atoms)
+    && residuesWell residueKeys residueNames residueCodes residueCategories residuePositions atomKeys (counts .residues) (counts .atoms)

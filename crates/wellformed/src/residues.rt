@@ -63,8 +63,10 @@ fn are_classed(
     residue_count: usize,
     atom_count: usize,
 ) -> bool
-    requires { ⌜ («residue_count» ≤ length (now «residue_keys»)) × («residue_count» ≤ length (now «residue_names»)) × («residue_count» ≤ length (now «residue_codes»)) × («residue_count» ≤ length (now «residue_categories»)) ⌝ }
-    ensures { λ r. ⌜ r ≡ residuesClassed (now («residue_keys» .entry)) (now («residue_names» .entry)) (now («residue_codes» .entry)) (now («residue_categories» .entry)) (now («atom_keys» .entry)) «residue_count» «atom_count» ⌝ }
+    requires { ⌜ («residue_count» ≤ length (now «residue_keys»)) × («residue_count» ≤ length (now «residue_names»))
+        × («residue_count» ≤ length (now «residue_codes»)) × («residue_count» ≤ length (now «residue_categories»)) ⌝ }
+    ensures { λ r. ⌜ r ≡ residuesClassed (now («residue_keys» .entry)) (now («residue_names» .entry)) (now («residue_codes» .entry))
+        (now («residue_categories» .entry)) (now («atom_keys» .entry)) «residue_count» «atom_count» ⌝ }
 {
     let mut from = 0;
     let mut i = 0;
@@ -118,8 +120,10 @@ pub(crate) fn are_residues_well(
     residue_count: usize,
     atom_count: usize,
 ) -> bool
-    requires { ⌜ («residue_count» ≤ length (now «residue_keys»)) × («residue_count» ≤ length (now «residue_names»)) × («residue_count» ≤ length (now «residue_codes»)) × («residue_count» ≤ length (now «residue_categories»)) × («residue_count» ≤ length (now «residue_positions»)) ⌝ }
-    ensures { λ r. ⌜ r ≡ residuesWell (now («residue_keys» .entry)) (now («residue_names» .entry)) (now («residue_codes» .entry)) (now («residue_categories» .entry)) (now («residue_positions» .entry)) (now («atom_keys» .entry)) «residue_count» «atom_count» ⌝ }
+    requires { ⌜ («residue_count» ≤ length (now «residue_keys»)) × («residue_count» ≤ length (now «residue_names»)) × («residue_count» ≤ length (now «residue_codes»))
+        × («residue_count» ≤ length (now «residue_categories»)) × («residue_count» ≤ length (now «residue_positions»)) ⌝ }
+    ensures { λ r. ⌜ r ≡ residuesWell (now («residue_keys» .entry)) (now («residue_names» .entry)) (now («residue_codes» .entry)) (now («residue_categories» .entry))
+        (now («residue_positions» .entry)) (now («atom_keys» .entry)) «residue_count» «atom_count» ⌝ }
 {
     if !are_residues_named(residue_keys, residue_names, residue_count) {
         return false;

@@ -7,23 +7,21 @@ use crate::runs::in_runs;
 use model::Room;
 use model::room_of;
 ghost use mathlib.Core.Path.{_≡_};
-ghost use mathlib.Core.Bool.{_&&_};
-ghost use lib.Dec.{leb};
-ghost use Rattle.model.specs.Lent.{lentOf};
-ghost use Rattle.model.specs.WellFormed.{wellFormedIn};
+ghost use Rattle.model.specs.Lent.{lent};
+ghost use Rattle.model.specs.WellFormed.{within, wellFormedIn};
 ghost use Rattle.wellformed.specs.Slices.{Within, recordsWell};
 
 // Counts fit records and sizes.
-fn counts_fit(room: Room, chain_count: usize, residue_count: usize, atom_count: usize) -> bool
-    ensures { λ r. ⌜ r ≡ (leb «chain_count» (room .chains) && leb «residue_count» (room .residues) && leb «atom_count» (room .atoms)) ⌝ }
+fn is_within(counts: Room, room: Room) -> bool
+    ensures { λ r. ⌜ r ≡ within counts room ⌝ }
 {
-    if room.chains < chain_count {
+    if room.chains < counts.chains {
         return false;
     }
-    if room.residues < residue_count {
+    if room.residues < counts.residues {
         return false;
     }
-    atom_count <= room.atoms
+    counts.atoms <= room.atoms
 }
 
 // Runs and order come before the residues, so that one walk over these tells classes and positions.
@@ -38,22 +36,22 @@ fn are_records_well(
     atom_names: &[u64],
     elements: &[u8],
     positions: &[[f64; 3]],
-    chain_count: usize,
-    residue_count: usize,
-    atom_count: usize,
+    counts: Room,
 ) -> bool
-    requires { ⌜ Within (now chains) (now «residue_keys») (now «residue_names») (now «residue_codes») (now «residue_categories») (now «residue_positions») (now «atom_keys») (now «atom_names») (now elements) (now positions) «chain_count» «residue_count» «atom_count» ⌝ }
-    ensures { λ r. ⌜ r ≡ recordsWell (now (chains .entry)) (now («residue_keys» .entry)) (now («residue_names» .entry)) (now («residue_codes» .entry)) (now («residue_categories» .entry)) (now («residue_positions» .entry)) (now («atom_keys» .entry)) (now («atom_names» .entry)) (now (elements .entry)) (now (positions .entry)) «chain_count» «residue_count» «atom_count» ⌝ }
+    requires { ⌜ Within (now chains) (now «residue_keys») (now «residue_names») (now «residue_codes») (now «residue_categories»)
+        (now «residue_positions») (now «atom_keys») (now «atom_names») (now elements) (now positions) counts ⌝ }
+    ensures { λ r. ⌜ r ≡ recordsWell (now (chains .entry)) (now («residue_keys» .entry)) (now («residue_names» .entry)) (now («residue_codes» .entry)) (now («residue_categories» .entry))
+        (now («residue_positions» .entry)) (now («atom_keys» .entry)) (now («atom_names» .entry)) (now (elements .entry)) (now (positions .entry)) counts ⌝ }
 {
-    if !are_chains_well(chains, chain_count) {
+    if !are_chains_well(chains, counts.chains) {
         return false;
     }
     if !in_runs(
         residue_keys,
         atom_keys,
-        chain_count,
-        residue_count,
-        atom_count,
+        counts.chains,
+        counts.residues,
+        counts.atoms,
     ) {
         return false;
     }
@@ -61,12 +59,12 @@ fn are_records_well(
         residue_keys,
         atom_keys,
         atom_names,
-        residue_count,
-        atom_count,
+        counts.residues,
+        counts.atoms,
     ) {
         return false;
     }
-    if !are_atoms_well(atom_names, elements, positions, atom_count) {
+    if !are_atoms_well(atom_names, elements, positions, counts.atoms) {
         return false;
     }
     are_residues_well(
@@ -76,8 +74,8 @@ fn are_records_well(
         residue_categories,
         residue_positions,
         atom_keys,
-        residue_count,
-        atom_count,
+        counts.residues,
+        counts.atoms,
     )
 }
 
@@ -94,11 +92,10 @@ pub fn is_well_formed(
     elements: &[u8],
     positions: &[[f64; 3]],
     occupancies: &[f64],
-    chain_count: usize,
-    residue_count: usize,
-    atom_count: usize,
+    counts: Room,
 ) -> bool
-    ensures { λ r. ⌜ r ≡ wellFormedIn (lentOf (now (chains .entry)) (now («residue_keys» .entry)) (now («residue_names» .entry)) (now («residue_codes» .entry)) (now («residue_categories» .entry)) (now («residue_positions» .entry)) (now («atom_keys» .entry)) (now («atom_names» .entry)) (now (elements .entry)) (now (positions .entry)) (now (occupancies .entry))) «chain_count» «residue_count» «atom_count» ⌝ }
+    ensures { λ r. ⌜ (let l = lent chains «residue_keys» «residue_names» «residue_codes» «residue_categories» «residue_positions» «atom_keys» «atom_names» elements positions occupancies .entry in
+        r ≡ wellFormedIn l counts) ⌝ }
 {
     let room = room_of(
         chains,
@@ -113,7 +110,7 @@ pub fn is_well_formed(
         positions,
         occupancies,
     );
-    if !counts_fit(room, chain_count, residue_count, atom_count) {
+    if !is_within(counts, room) {
         return false;
     }
     are_records_well(
@@ -127,8 +124,6 @@ pub fn is_well_formed(
         atom_names,
         elements,
         positions,
-        chain_count,
-        residue_count,
-        atom_count,
+        counts,
     )
 }

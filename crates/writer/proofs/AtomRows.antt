@@ -8,25 +8,26 @@ use Rattle.model.specs.Lent.{Lent, atomIn, modelIn}
 use Rattle.model.specs.TakenOut.{residueOut, atomOut}
 use Rattle.model.specs.Termini.{isPolymer}
 use Rattle.model.specs.WellFormed.{wellFormedIn}
+use Rattle.model.specs.declared.room.Room.{Room}
 use Rattle.writer.specs.Text.{entityOf, atomRowOf}
 use Rattle.writer.specs.Walking.{rowBy}
 use Rattle.writer.specs.declared.walking.Walk.{Walk}
 use Rattle.writer.proofs.ModelWalk.{walkedOn, Walked, walk-residue, walk-number}
 
-module _ (l : Lent) (chains residues atoms : ℕ) (well : wellFormedIn l chains residues atoms ≡ true) (i : ℕ) (h : i < atoms) (w : Walk) (before : Walked l residues atoms i w) where
-  pub row-is : (id : ℕ) → rowBy (take chains (l .chains)) id (atomOut (atomIn l i)) (walkedOn l i w) ≡ atomRowOf (modelIn l chains residues atoms) id (atomIn l i)
+module _ (l : Lent) (counts : Room) (well : wellFormedIn l counts ≡ true) (i : ℕ) (h : i < counts .atoms) (w : Walk) (before : Walked l (counts .residues) (counts .atoms) i w) where
+  pub row-is : (id : ℕ) → rowBy (take (counts .chains) (l .chains)) id (atomOut (atomIn l i)) (walkedOn l i w) ≡ atomRowOf (modelIn l counts) id (atomIn l i)
   unfolding atomOut residueOut modelIn
   row-is id =
       let a = atomIn l i in
-      let residue = walk-residue l chains residues atoms well i h w before in
-      let number = walk-number l chains residues atoms well i h w before in
+      let residue = walk-residue l counts well i h w before in
+      let number = walk-number l counts well i h w before in
       λ k. record {
         polymer = isPolymer (residue k .code);
         id = id;
         element = a .element;
         atom = a .name;
         residue = residue k .name;
-        chain = getD (take chains (l .chains)) (chainPart (a .key)) 0;
+        chain = getD (take (counts .chains) (l .chains)) (chainPart (a .key)) 0;
         entity = entityOf (a .key);
         number = number k;
         «insertion_code» = codePart (a .key);

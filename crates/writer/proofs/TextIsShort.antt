@@ -20,6 +20,7 @@ use Rattle.model.specs.Lent.{Lent, residueIn, atomIn, modelIn}
 use Rattle.model.specs.Records.{ResidueRecord, AtomRecord, Model}
 use Rattle.model.specs.Termini.{isPolymer}
 use Rattle.model.specs.WellFormed.{wellFormedIn}
+use Rattle.model.specs.declared.room.Room.{Room}
 use Rattle.texts.specs.Fields.{decimalOf, sequenceText, nameText, symbolText, codeText, groupText, numberText, coordinateText}
 use Rattle.texts.specs.Rows.{atomFields, polymerFields, atomText, polymerText}
 use Rattle.texts.specs.declared.loop_rows.AtomRow.{AtomRow}
@@ -169,10 +170,10 @@ loop-short : (rows : List ℕ) → length (text.atomLoop rows) ≤ 1024 + length
 unfolding linesText
 loop-short rows = omega (arith, length-append (linesText atomHeaders) (rows ++ linesText closing), length-append rows (linesText closing))
 
-pub text-short : (l : Lent) (chains residues atoms : ℕ) → wellFormedIn l chains residues atoms ≡ true → length (text.textOf (modelIn l chains residues atoms)) < 2 ^ 32
+pub text-short : (l : Lent) (counts : Room) → wellFormedIn l counts ≡ true → length (text.textOf (modelIn l counts)) < 2 ^ 32
 unfolding text.textOf modelIn linesText
-text-short l chains residues atoms well =
-    let m = modelIn l chains residues atoms in
+text-short l counts well =
+    let m = modelIn l counts in
     let polymers = polymerRows m (m .residues) in
     let rows = atomRows m 1 (m .atoms) in
     omega (
@@ -183,8 +184,8 @@ text-short l chains residues atoms well =
       loop-short rows,
       polymers-short m (m .residues),
       atoms-short m 1 (m .atoms),
-      from-length (residueIn l) 0 residues,
-      from-length (atomIn l) 0 atoms,
-      few-residues l chains residues atoms well,
-      few-atoms l chains residues atoms well,
+      from-length (residueIn l) 0 (counts .residues),
+      from-length (atomIn l) 0 (counts .atoms),
+      few-residues l counts well,
+      few-atoms l counts well,
     )

@@ -9,6 +9,7 @@ use borrow.Author.Tests.{le-leb, lt-leb}
 use Rattle.model.specs.Lent.{Lent, modelIn}
 use Rattle.model.specs.Records.{Model}
 use Rattle.model.specs.WellFormed.{wellFormedIn}
+use Rattle.model.specs.declared.room.Room.{Room}
 use Rattle.writer.specs.Text.{textOf}
 use Rattle.writer.specs.Unwritable.{unwritableIn}
 use Rattle.writer.specs.Writing.{Writing, written, refused, fitted, writtenBut, writingOf, writeOf, Wrote}
@@ -47,14 +48,14 @@ module _ (out : List ℕ) (m : Model) (atom : ℕ) (is : atom ≡ unwritableIn m
   writable e = ap (λ (n : ℕ). writtenBut n (length out) m) (sym e ∙ is)
 
 -- ---- 12
-module _ (out : List ℕ) (l : Lent) (chains residues atoms : ℕ) where
+module _ (out : List ℕ) (l : Lent) (counts : Room) where
   abbrev writing : Bool → Writing
-  writing b = cond b (writingOf (length out) (modelIn l chains residues atoms)) (refused NotWellFormed)
+  writing b = cond b (writingOf (length out) (modelIn l counts)) (refused NotWellFormed)
 
-  pub not-well-formed : wellFormedIn l chains residues atoms ≡ false → Wrote out (writeOf l chains residues atoms (length out)) (Answer.Refused NotWellFormed) out
+  pub not-well-formed : wellFormedIn l counts ≡ false → Wrote out (writeOf l counts (length out)) (Answer.Refused NotWellFormed) out
   unfolding writeOf
-  not-well-formed e = refuses out (writing (wellFormedIn l chains residues atoms)) NotWellFormed (ap writing e)
+  not-well-formed e = refuses out (writing (wellFormedIn l counts)) NotWellFormed (ap writing e)
 
-  pub well-formed : wellFormedIn l chains residues atoms ≡ true → writingOf (length out) (modelIn l chains residues atoms) ≡ writeOf l chains residues atoms (length out)
+  pub well-formed : wellFormedIn l counts ≡ true → writingOf (length out) (modelIn l counts) ≡ writeOf l counts (length out)
   unfolding writeOf
   well-formed e = sym (ap writing e)

@@ -17,16 +17,6 @@ use Rattle.writer.specs.Text.{atomRows, polymerRows}
 use Rattle.writer.specs.Unwritable.{holdsBothQuotes, isUnwritableCode}
 use Rattle.writer.specs.declared.walking.Walk.{Walk}
 
--- the residue at an index of its slices
-abbrev pub residueFrom : List ℕ → List ℕ → List ℕ → List ℕ → List ℕ → ℕ → ResidueRecord
-residueFrom keys names codes categories positions i = record {
-  key = getD keys i 0;
-  name = getD names i 0;
-  code = getD codes i 0;
-  category = getD categories i 0;
-  position = getD positions i 0;
-}
-
 -- ---- from residue to residue
 
 -- the number of a residue, after one of a number and a chain: each chain starts anew

@@ -6,9 +6,12 @@ use mathlib.Core.List.{List}
 use lib.Dec.{leb}
 use lib.ListN.{length}
 use lib.Seq.{sets}
+use denote.Ref.{now}
+use Rattle.records.specs.Slice.{Slice}
 use Rattle.model.specs.Lent.{Lent, modelIn}
 use Rattle.model.specs.Records.{Model}
 use Rattle.model.specs.WellFormed.{wellFormedIn}
+use Rattle.model.specs.declared.room.Room.{Room}
 use Rattle.writer.specs.Text.{textOf}
 use Rattle.writer.specs.Unwritable.{unwritableIn}
 use Rattle.writer.specs.declared.answers.Answer.{Answer}
@@ -33,9 +36,8 @@ abbrev pub writingOf : ℕ → Model → Writing
 writingOf size m = writtenBut (unwritableIn m) size m
 
 -- 12, and then that
-unfoldable pub writeOf : Lent → ℕ → ℕ → ℕ → ℕ → Writing
-writeOf l chains residues atoms size =
-    cond (wellFormedIn l chains residues atoms) (writingOf size (modelIn l chains residues atoms)) (refused NotWellFormed)
+unfoldable pub writeOf : Lent → Room → ℕ → Writing
+writeOf l counts size = cond (wellFormedIn l counts) (writingOf size (modelIn l counts)) (refused NotWellFormed)
 
 -- ---- what is answered, and what is left in the buffer
 
@@ -51,3 +53,7 @@ leftBy out (refused why) = out
 pub record Wrote (out : List ℕ) (writing : Writing) (answer : Answer) (after : List ℕ) : Type 0 where
   pub answered : answer ≡ answerOf writing
   pub left : after ≡ leftBy out writing
+
+-- into a lent buffer
+abbrev pub Writes : Slice ℕ → (ℕ → Writing) → Answer → Type 0
+Writes out writing answer = Wrote (now (out .entry)) (writing (length (now (out .entry)))) answer (now (out .exit))

@@ -5,6 +5,7 @@ use crate::walking::Walk;
 use crate::walking::begin_walk;
 use crate::walking::walk_to;
 use model::Atom;
+use model::Room;
 use model::atom_at;
 use model::chain_part;
 use model::is_polymer;
@@ -15,9 +16,9 @@ ghost use mathlib.Core.Path.{_≡_};
 ghost use mathlib.Core.Bool.{true};
 ghost use Prim.Native.Nat.{_≤_};
 ghost use lib.ListN.{length, take};
-ghost use Rattle.model.specs.Lent.{lentOf, modelIn};
+ghost use Rattle.model.specs.Lent.{passed, lent, modelIn};
 ghost use Rattle.model.specs.WellFormed.{wellFormedIn};
-ghost use Rattle.texts.specs.Emitted.{Emitted};
+ghost use Rattle.texts.specs.Emitted.{Emits};
 ghost use Rattle.writer.specs.Text.{atomLoop};
 ghost use Rattle.writer.specs.Walking.{rowBy, atomsOf};
 
@@ -58,12 +59,11 @@ fn put_atom_rows(
     elements: &[u8],
     positions: &[[f64; 3]],
     occupancies: &[f64],
-    chain_count: usize,
-    residue_count: usize,
-    atom_count: usize,
+    counts: Room,
 ) -> usize
-    requires { ⌜ wellFormedIn (lentOf (now chains) (now «residue_keys») (now «residue_names») (now «residue_codes») (now «residue_categories») (now «residue_positions») (now «atom_keys») (now «atom_names») (now elements) (now positions) (now occupancies)) «chain_count» «residue_count» «atom_count» ≡ true ⌝ }
-    ensures { λ r. ⌜ Emitted (now (out .entry)) at (atomsOf (modelIn (lentOf (now (chains .entry)) (now («residue_keys» .entry)) (now («residue_names» .entry)) (now («residue_codes» .entry)) (now («residue_categories» .entry)) (now («residue_positions» .entry)) (now («atom_keys» .entry)) (now («atom_names» .entry)) (now (elements .entry)) (now (positions .entry)) (now (occupancies .entry))) «chain_count» «residue_count» «atom_count»)) r (now (out .exit)) ⌝ }
+    requires { ⌜ wellFormedIn (passed chains «residue_keys» «residue_names» «residue_codes» «residue_categories» «residue_positions» «atom_keys» «atom_names» elements positions occupancies) counts ≡ true ⌝ }
+    ensures { λ r. ⌜ (let l = lent chains «residue_keys» «residue_names» «residue_codes» «residue_categories» «residue_positions» «atom_keys» «atom_names» elements positions occupancies .entry in
+        Emits out at (atomsOf (modelIn l counts)) r) ⌝ }
 {
     let mut place = at;
     let mut walk = begin_walk(
@@ -74,7 +74,7 @@ fn put_atom_rows(
         residue_positions,
     );
     let mut i = 0;
-    while i < atom_count {
+    while i < counts.atoms {
         let atom = atom_at(atom_keys, atom_names, elements, positions, occupancies, i);
         walk = walk_to(
             residue_keys,
@@ -86,7 +86,7 @@ fn put_atom_rows(
             atom.key,
         );
         i += 1;
-        let row = atom_row(chains, chain_count, i as u64, atom, walk);
+        let row = atom_row(chains, counts.chains, i as u64, atom, walk);
         place = put_atom_row(out, place, row);
     }
     place
@@ -106,12 +106,11 @@ pub(crate) fn put_atom_loop(
     elements: &[u8],
     positions: &[[f64; 3]],
     occupancies: &[f64],
-    chain_count: usize,
-    residue_count: usize,
-    atom_count: usize,
+    counts: Room,
 ) -> usize
-    requires { ⌜ wellFormedIn (lentOf (now chains) (now «residue_keys») (now «residue_names») (now «residue_codes») (now «residue_categories») (now «residue_positions») (now «atom_keys») (now «atom_names») (now elements) (now positions) (now occupancies)) «chain_count» «residue_count» «atom_count» ≡ true ⌝ }
-    ensures { λ r. ⌜ Emitted (now (out .entry)) at (atomLoop (atomsOf (modelIn (lentOf (now (chains .entry)) (now («residue_keys» .entry)) (now («residue_names» .entry)) (now («residue_codes» .entry)) (now («residue_categories» .entry)) (now («residue_positions» .entry)) (now («atom_keys» .entry)) (now («atom_names» .entry)) (now (elements .entry)) (now (positions .entry)) (now (occupancies .entry))) «chain_count» «residue_count» «atom_count»))) r (now (out .exit)) ⌝ }
+    requires { ⌜ wellFormedIn (passed chains «residue_keys» «residue_names» «residue_codes» «residue_categories» «residue_positions» «atom_keys» «atom_names» elements positions occupancies) counts ≡ true ⌝ }
+    ensures { λ r. ⌜ (let l = lent chains «residue_keys» «residue_names» «residue_codes» «residue_categories» «residue_positions» «atom_keys» «atom_names» elements positions occupancies .entry in
+        Emits out at (atomLoop (atomsOf (modelIn l counts))) r) ⌝ }
 {
     let at = put_atom_headers(out, at);
     let at = put_atom_rows(
@@ -128,9 +127,7 @@ pub(crate) fn put_atom_loop(
         elements,
         positions,
         occupancies,
-        chain_count,
-        residue_count,
-        atom_count,
+        counts,
     );
     put_word(out, at, b"#\n")
 }

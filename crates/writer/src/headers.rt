@@ -1,10 +1,10 @@
 // The lines in front of the rows.
 use texts::put_word;
-ghost use Rattle.texts.specs.Emitted.{Emitted};
+ghost use Rattle.texts.specs.Emitted.{Emits};
 ghost use Rattle.writer.specs.Text.{linesText, opening, polymerHeaders, atomHeaders};
 
 pub(crate) fn put_opening(out: &mut [u8], at: usize) -> usize
-    ensures { λ r. ⌜ Emitted (now (out .entry)) at (linesText opening) r (now (out .exit)) ⌝ }
+    ensures { λ r. ⌜ Emits out at (linesText opening) r ⌝ }
 {
     put_word(
         out,
@@ -15,7 +15,7 @@ pub(crate) fn put_opening(out: &mut [u8], at: usize) -> usize
 }
 
 pub(crate) fn put_polymer_headers(out: &mut [u8], at: usize) -> usize
-    ensures { λ r. ⌜ Emitted (now (out .entry)) at (linesText polymerHeaders) r (now (out .exit)) ⌝ }
+    ensures { λ r. ⌜ Emits out at (linesText polymerHeaders) r ⌝ }
 {
     put_word(
         out,
@@ -29,7 +29,7 @@ pub(crate) fn put_polymer_headers(out: &mut [u8], at: usize) -> usize
 }
 
 pub(crate) fn put_atom_headers(out: &mut [u8], at: usize) -> usize
-    ensures { λ r. ⌜ Emitted (now (out .entry)) at (linesText atomHeaders) r (now (out .exit)) ⌝ }
+    ensures { λ r. ⌜ Emits out at (linesText atomHeaders) r ⌝ }
 {
     put_word(
         out,

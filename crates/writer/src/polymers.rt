@@ -11,13 +11,13 @@ use texts::put_word;
 ghost use mathlib.Core.Path.{_≡_};
 ghost use mathlib.Core.Bool.{true};
 ghost use Prim.Native.Nat.{_+_, _^_, _≤_, _<_};
-ghost use Rattle.model.specs.Lent.{listFrom};
+ghost use Rattle.model.specs.Lent.{listFrom, residueFrom};
 ghost use Rattle.model.specs.Lists.{any};
 ghost use Rattle.model.specs.Termini.{isPolymer};
-ghost use Rattle.texts.specs.Emitted.{Emitted};
+ghost use Rattle.texts.specs.Emitted.{Emits};
 ghost use Rattle.wellformed.specs.Slices.{entries, residuesAscend};
 ghost use Rattle.writer.specs.Text.{polymerList};
-ghost use Rattle.writer.specs.Walking.{residueFrom, polymerBy, polymersOf};
+ghost use Rattle.writer.specs.Walking.{polymerBy, polymersOf};
 
 fn has_polymers(codes: &[u8], n: usize) -> bool
     ensures { λ r. ⌜ r ≡ any isPolymer (listFrom (entries (now (codes .entry))) 0 n) ⌝ }
@@ -35,7 +35,7 @@ fn has_polymers(codes: &[u8], n: usize) -> bool
 // The row of a residue; none where it is of no polymer.
 fn put_polymer(out: &mut [u8], at: usize, residue: Residue, number: u64) -> usize
     requires { ⌜ residue .chain + 1 < 2 ^ 64 ⌝ }
-    ensures { λ r. ⌜ Emitted (now (out .entry)) at (polymerBy residue number) r (now (out .exit)) ⌝ }
+    ensures { λ r. ⌜ Emits out at (polymerBy residue number) r ⌝ }
 {
     if !is_polymer(residue.code) {
         return at;
@@ -59,7 +59,7 @@ fn put_polymer_rows(
     n: usize,
 ) -> usize
     requires { ⌜ (residuesAscend (now keys) n ≡ true) × (n ≤ 65536) ⌝ }
-    ensures { λ r. ⌜ Emitted (now (out .entry)) at (polymersOf (listFrom (residueFrom (now (keys .entry)) (now (names .entry)) (now (codes .entry)) (now (categories .entry)) (now (positions .entry))) 0 n)) r (now (out .exit)) ⌝ }
+    ensures { λ r. ⌜ Emits out at (polymersOf (listFrom (residueFrom (now (keys .entry)) (now (names .entry)) (now (codes .entry)) (now (categories .entry)) (now (positions .entry))) 0 n)) r ⌝ }
 {
     let mut place = at;
     let mut chain = 0;
@@ -86,7 +86,7 @@ pub(crate) fn put_polymer_list(
     n: usize,
 ) -> usize
     requires { ⌜ (residuesAscend (now keys) n ≡ true) × (n ≤ 65536) ⌝ }
-    ensures { λ r. ⌜ Emitted (now (out .entry)) at (polymerList (polymersOf (listFrom (residueFrom (now (keys .entry)) (now (names .entry)) (now (codes .entry)) (now (categories .entry)) (now (positions .entry))) 0 n))) r (now (out .exit)) ⌝ }
+    ensures { λ r. ⌜ Emits out at (polymerList (polymersOf (listFrom (residueFrom (now (keys .entry)) (now (names .entry)) (now (codes .entry)) (now (categories .entry)) (now (positions .entry))) 0 n))) r ⌝ }
 {
     if !has_polymers(codes, n) {
         return at;

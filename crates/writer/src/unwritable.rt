@@ -4,6 +4,7 @@ use crate::walking::Walk;
 use crate::walking::begin_walk;
 use crate::walking::walk_to;
 use model::Atom;
+use model::Room;
 use model::atom_at;
 ghost use mathlib.Core.Path.{_≡_};
 ghost use mathlib.Core.Bool.{true};
@@ -11,7 +12,7 @@ ghost use Prim.Native.Nat.{_≤_};
 ghost use lib.ListN.{length, take};
 ghost use Rattle.names.specs.Packing.{unpacked};
 ghost use Rattle.tokens.specs.Quote.{has};
-ghost use Rattle.model.specs.Lent.{lentOf, modelIn};
+ghost use Rattle.model.specs.Lent.{passed, lent, modelIn};
 ghost use Rattle.model.specs.WellFormed.{wellFormedIn};
 ghost use Rattle.writer.specs.Unwritable.{holdsBothQuotes, isUnwritableCode, unwritableIn};
 ghost use Rattle.writer.specs.Walking.{unwritableBy};
@@ -83,12 +84,11 @@ pub(crate) fn first_unwritable(
     elements: &[u8],
     positions: &[[f64; 3]],
     occupancies: &[f64],
-    chain_count: usize,
-    residue_count: usize,
-    atom_count: usize,
+    counts: Room,
 ) -> usize
-    requires { ⌜ wellFormedIn (lentOf (now chains) (now «residue_keys») (now «residue_names») (now «residue_codes») (now «residue_categories») (now «residue_positions») (now «atom_keys») (now «atom_names») (now elements) (now positions) (now occupancies)) «chain_count» «residue_count» «atom_count» ≡ true ⌝ }
-    ensures { λ r. ⌜ r ≡ unwritableIn (modelIn (lentOf (now (chains .entry)) (now («residue_keys» .entry)) (now («residue_names» .entry)) (now («residue_codes» .entry)) (now («residue_categories» .entry)) (now («residue_positions» .entry)) (now («atom_keys» .entry)) (now («atom_names» .entry)) (now (elements .entry)) (now (positions .entry)) (now (occupancies .entry))) «chain_count» «residue_count» «atom_count») ⌝ }
+    requires { ⌜ wellFormedIn (passed chains «residue_keys» «residue_names» «residue_codes» «residue_categories» «residue_positions» «atom_keys» «atom_names» elements positions occupancies) counts ≡ true ⌝ }
+    ensures { λ r. ⌜ (let l = lent chains «residue_keys» «residue_names» «residue_codes» «residue_categories» «residue_positions» «atom_keys» «atom_names» elements positions occupancies .entry in
+        r ≡ unwritableIn (modelIn l counts)) ⌝ }
 {
     let mut walk = begin_walk(
         residue_keys,
@@ -98,7 +98,7 @@ pub(crate) fn first_unwritable(
         residue_positions,
     );
     let mut i = 0;
-    while i < atom_count {
+    while i < counts.atoms {
         let atom = atom_at(atom_keys, atom_names, elements, positions, occupancies, i);
         walk = walk_to(
             residue_keys,
@@ -109,7 +109,7 @@ pub(crate) fn first_unwritable(
             walk,
             atom.key,
         );
-        if is_unwritable(chains, chain_count, atom, walk) {
+        if is_unwritable(chains, counts.chains, atom, walk) {
             return i + 1;
         }
         i += 1;

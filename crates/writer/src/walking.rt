@@ -5,9 +5,10 @@ use model::residue_at;
 ghost use mathlib.Core.Path.{_≡_};
 ghost use Prim.Native.Nat.{_^_, _+_, _<_};
 ghost use lib.ListN.{length};
+ghost use Rattle.model.specs.Lent.{residueFrom};
 ghost use Rattle.model.specs.Lists.{count};
 ghost use Rattle.model.specs.Termini.{isPolymer};
-ghost use Rattle.writer.specs.Walking.{residueFrom, numberAfter, begun, walkedTo};
+ghost use Rattle.writer.specs.Walking.{numberAfter, begun, walkedTo};
 
 pub struct Walk {
     pub index: usize,

@@ -5,15 +5,15 @@ use crate::headers::put_opening;
 use crate::polymers::put_polymer_list;
 use crate::refusals::Refusal;
 use crate::unwritable::first_unwritable;
+use model::Room;
 use wellformed::is_well_formed;
 ghost use mathlib.Core.Path.{_≡_};
 ghost use mathlib.Core.Bool.{true};
-ghost use lib.ListN.{length};
-ghost use Rattle.model.specs.Lent.{lentOf, modelIn};
+ghost use Rattle.model.specs.Lent.{passed, lent, modelIn};
 ghost use Rattle.model.specs.WellFormed.{wellFormedIn};
-ghost use Rattle.texts.specs.Emitted.{Emitted};
+ghost use Rattle.texts.specs.Emitted.{Emits};
 ghost use Rattle.writer.specs.Text.{textOf};
-ghost use Rattle.writer.specs.Writing.{fitted, writingOf, writeOf, Wrote};
+ghost use Rattle.writer.specs.Writing.{fitted, writingOf, writeOf, Writes};
 
 // The text from the first byte on; over an empty buffer this tells its length.
 fn put_text(
@@ -29,12 +29,11 @@ fn put_text(
     elements: &[u8],
     positions: &[[f64; 3]],
     occupancies: &[f64],
-    chain_count: usize,
-    residue_count: usize,
-    atom_count: usize,
+    counts: Room,
 ) -> usize
-    requires { ⌜ wellFormedIn (lentOf (now chains) (now «residue_keys») (now «residue_names») (now «residue_codes») (now «residue_categories») (now «residue_positions») (now «atom_keys») (now «atom_names») (now elements) (now positions) (now occupancies)) «chain_count» «residue_count» «atom_count» ≡ true ⌝ }
-    ensures { λ r. ⌜ Emitted (now (out .entry)) 0 (textOf (modelIn (lentOf (now (chains .entry)) (now («residue_keys» .entry)) (now («residue_names» .entry)) (now («residue_codes» .entry)) (now («residue_categories» .entry)) (now («residue_positions» .entry)) (now («atom_keys» .entry)) (now («atom_names» .entry)) (now (elements .entry)) (now (positions .entry)) (now (occupancies .entry))) «chain_count» «residue_count» «atom_count»)) r (now (out .exit)) ⌝ }
+    requires { ⌜ wellFormedIn (passed chains «residue_keys» «residue_names» «residue_codes» «residue_categories» «residue_positions» «atom_keys» «atom_names» elements positions occupancies) counts ≡ true ⌝ }
+    ensures { λ r. ⌜ (let l = lent chains «residue_keys» «residue_names» «residue_codes» «residue_categories» «residue_positions» «atom_keys» «atom_names» elements positions occupancies .entry in
+        Emits out 0 (textOf (modelIn l counts)) r) ⌝ }
 {
     let at = put_opening(out, 0);
     let at = put_polymer_list(
@@ -45,7 +44,7 @@ fn put_text(
         residue_codes,
         residue_categories,
         residue_positions,
-        residue_count,
+        counts.residues,
     );
     put_atom_loop(
         out,
@@ -61,9 +60,7 @@ fn put_text(
         elements,
         positions,
         occupancies,
-        chain_count,
-        residue_count,
-        atom_count,
+        counts,
     )
 }
 
@@ -81,12 +78,11 @@ fn write_fitting(
     elements: &[u8],
     positions: &[[f64; 3]],
     occupancies: &[f64],
-    chain_count: usize,
-    residue_count: usize,
-    atom_count: usize,
+    counts: Room,
 ) -> Answer
-    requires { ⌜ wellFormedIn (lentOf (now chains) (now «residue_keys») (now «residue_names») (now «residue_codes») (now «residue_categories») (now «residue_positions») (now «atom_keys») (now «atom_names») (now elements) (now positions) (now occupancies)) «chain_count» «residue_count» «atom_count» ≡ true ⌝ }
-    ensures { λ r. ⌜ Wrote (now (out .entry)) (fitted (length (now (out .entry))) (textOf (modelIn (lentOf (now (chains .entry)) (now («residue_keys» .entry)) (now («residue_names» .entry)) (now («residue_codes» .entry)) (now («residue_categories» .entry)) (now («residue_positions» .entry)) (now («atom_keys» .entry)) (now («atom_names» .entry)) (now (elements .entry)) (now (positions .entry)) (now (occupancies .entry))) «chain_count» «residue_count» «atom_count»))) r (now (out .exit)) ⌝ }
+    requires { ⌜ wellFormedIn (passed chains «residue_keys» «residue_names» «residue_codes» «residue_categories» «residue_positions» «atom_keys» «atom_names» elements positions occupancies) counts ≡ true ⌝ }
+    ensures { λ r. ⌜ (let l = lent chains «residue_keys» «residue_names» «residue_codes» «residue_categories» «residue_positions» «atom_keys» «atom_names» elements positions occupancies .entry in
+        Writes out (λ size. fitted size (textOf (modelIn l counts))) r) ⌝ }
 {
     let needed = put_text(
         &mut out[0..0],
@@ -101,9 +97,7 @@ fn write_fitting(
         elements,
         positions,
         occupancies,
-        chain_count,
-        residue_count,
-        atom_count,
+        counts,
     );
     if out.len() < needed {
         return Answer::Refused(Refusal::OutputTooShort { needed });
@@ -121,9 +115,7 @@ fn write_fitting(
         elements,
         positions,
         occupancies,
-        chain_count,
-        residue_count,
-        atom_count,
+        counts,
     );
     Answer::Written(end)
 }
@@ -142,12 +134,11 @@ fn write_writable(
     elements: &[u8],
     positions: &[[f64; 3]],
     occupancies: &[f64],
-    chain_count: usize,
-    residue_count: usize,
-    atom_count: usize,
+    counts: Room,
 ) -> Answer
-    requires { ⌜ wellFormedIn (lentOf (now chains) (now «residue_keys») (now «residue_names») (now «residue_codes») (now «residue_categories») (now «residue_positions») (now «atom_keys») (now «atom_names») (now elements) (now positions) (now occupancies)) «chain_count» «residue_count» «atom_count» ≡ true ⌝ }
-    ensures { λ r. ⌜ Wrote (now (out .entry)) (writingOf (length (now (out .entry))) (modelIn (lentOf (now (chains .entry)) (now («residue_keys» .entry)) (now («residue_names» .entry)) (now («residue_codes» .entry)) (now («residue_categories» .entry)) (now («residue_positions» .entry)) (now («atom_keys» .entry)) (now («atom_names» .entry)) (now (elements .entry)) (now (positions .entry)) (now (occupancies .entry))) «chain_count» «residue_count» «atom_count»)) r (now (out .exit)) ⌝ }
+    requires { ⌜ wellFormedIn (passed chains «residue_keys» «residue_names» «residue_codes» «residue_categories» «residue_positions» «atom_keys» «atom_names» elements positions occupancies) counts ≡ true ⌝ }
+    ensures { λ r. ⌜ (let l = lent chains «residue_keys» «residue_names» «residue_codes» «residue_categories» «residue_positions» «atom_keys» «atom_names» elements positions occupancies .entry in
+        Writes out (λ size. writingOf size (modelIn l counts)) r) ⌝ }
 {
     let atom = first_unwritable(
         chains,
@@ -161,9 +152,7 @@ fn write_writable(
         elements,
         positions,
         occupancies,
-        chain_count,
-        residue_count,
-        atom_count,
+        counts,
     );
     if atom != 0 {
         return Answer::Refused(Refusal::Unwritable { atom });
@@ -181,9 +170,7 @@ fn write_writable(
         elements,
         positions,
         occupancies,
-        chain_count,
-        residue_count,
-        atom_count,
+        counts,
     )
 }
 
@@ -200,12 +187,11 @@ pub fn write_by_names(
     elements: &[u8],
     positions: &[[f64; 3]],
     occupancies: &[f64],
-    chain_count: usize,
-    residue_count: usize,
-    atom_count: usize,
+    counts: Room,
     out: &mut [u8],
 ) -> Answer
-    ensures { λ r. ⌜ Wrote (now (out .entry)) (writeOf (lentOf (now (chains .entry)) (now («residue_keys» .entry)) (now («residue_names» .entry)) (now («residue_codes» .entry)) (now («residue_categories» .entry)) (now («residue_positions» .entry)) (now («atom_keys» .entry)) (now («atom_names» .entry)) (now (elements .entry)) (now (positions .entry)) (now (occupancies .entry))) «chain_count» «residue_count» «atom_count» (length (now (out .entry)))) r (now (out .exit)) ⌝ }
+    ensures { λ r. ⌜ (let l = lent chains «residue_keys» «residue_names» «residue_codes» «residue_categories» «residue_positions» «atom_keys» «atom_names» elements positions occupancies .entry in
+        Writes out (writeOf l counts) r) ⌝ }
 {
     if !is_well_formed(
         chains,
@@ -219,9 +205,7 @@ pub fn write_by_names(
         elements,
         positions,
         occupancies,
-        chain_count,
-        residue_count,
-        atom_count,
+        counts,
     ) {
         return Answer::Refused(Refusal::NotWellFormed);
     }
@@ -238,8 +222,6 @@ pub fn write_by_names(
         elements,
         positions,
         occupancies,
-        chain_count,
-        residue_count,
-        atom_count,
+        counts,
     )
 }

@@ -8,7 +8,7 @@ use Rattle.finishing.proofs.clearing.clear_records.Tie as tie
 -- the slices at entry
 abbrev entry : tie.Start → Lent
 entry s = record {
-  chains = s .args .chain-names .now;
+  chains = s .args .chains .now;
   residueKeys = s .args .residue-keys .now;
   residueNames = s .args .residue-names .now;
   residueCodes = s .args .residue-codes .now;
@@ -55,7 +55,7 @@ clear-f64-from-requires : tie.Need-clear-f64-from-requires
 clear-f64-from-requires c κs = search needs
 
 same-length : tie.Need-same-length
-same-length c = c .before .before .before .before .before .before .before .before .before .before .before .before .before .before .before .before .before .before .before .before .before .before .before .before .before .before .before .before .before .before .before .before .before .before .before .before .before .before .before .before .chain-names .given
+same-length c = c .before .before .before .before .before .before .before .before .before .before .before .before .before .before .before .before .before .before .before .before .before .before .before .before .before .before .before .before .before .before .before .before .before .before .before .before .before .before .before .before .chains .given
 
 same-length-2 : tie.Need-same-length-2
 same-length-2 c = search needs
@@ -90,7 +90,7 @@ same-length-11 c = search needs
 returns : tie.Need-returns
 returns c =
     let t = c .before .before .before .before .before .before .before .before .before .before .before .before .before .before .before .before .before .before .before .before .before .before .before .before .before .before .before .before .before .before .before .before .before .before .before .before .before .before .before .before .before .before .before .before .before .before .before .before .before .before .before .before .before in
-    slices-cleared (entry t) (t .args .chains) (t .args .residues) (t .args .atoms)
+    slices-cleared (entry t) (t .args .kept)
     (c .before .before .before .before .before .before .before .before .before .before .before .before .before .before .before .before .before .before .before .before .before .before .before .before .before .before .before .before .before .before .before .before .before .before .before .before .before .before .before .before .before .clear-u64-from .ensures)
     (c .before .before .before .before .before .before .before .before .before .before .before .before .before .before .before .before .before .before .before .before .before .before .before .before .before .before .before .before .before .before .before .before .before .before .before .before .before .clear-u64-from2 .ensures)
     (c .before .before .before .before .before .before .before .before .before .before .before .before .before .before .before .before .before .before .before .before .before .before .before .before .before .before .before .before .before .before .before .before .before .clear-u64-from3 .ensures)

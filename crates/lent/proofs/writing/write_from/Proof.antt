@@ -48,7 +48,7 @@ returns : tie.Need-returns
 returns c =
     let t = c .before .before .before .before .before .before .before .before .before .before .before .before .before .before .before .before .before in
     let w = c .before .before .write-by-names in
-    kept-part (λ names. Wrote (t .args .out .now) (writeOf (entry t names) (t .args .chain-count) (t .args .residue-count) (t .args .atom-count) (length (t .args .out .now))) (w .result) (w .last .1 .1 .1 .1 .1 .1 .1 .1 .1 .1 .1 .1 .1 .1 .0))
+    kept-part (λ names. Wrote (t .args .out .now) (writeOf (entry t names) (record { chains = t .args .chain-count; residues = t .args .residue-count; atoms = t .args .atom-count }) (length (t .args .out .now))) (w .result) (w .last .1 .1 .1 .1 .1 .1 .1 .1 .1 .1 .1 .1 .0))
     (t .args .size) (c .before .before .before .before .before .before .kept .result) (t .args .names .now) (c .before .before .before .before .before .before .kept .ensures) (c .before .before .before .before .before .all .given .0) (w .ensures)
 
 pub write-from-spec : {M : Type 1} → statement M

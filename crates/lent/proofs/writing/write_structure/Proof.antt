@@ -127,7 +127,7 @@ module _ {M : Type 1} (𝓤 : URA M) (H : Heap 𝓤) (A : Atoms 𝓤) (W : Given
   lent-as = slices-now (a .1)
 
   abbrev written-as : List ℕ → Writing
-  written-as names = writeOf (lent-as names) (counts .0) (counts .1 .0) (counts .1 .1 .0) (length out)
+  written-as names = writeOf (lent-as names) (record { chains = counts .0; residues = counts .1 .0; atoms = counts .1 .1 .0 }) (length out)
 
   -- the tokens of all lifetimes but the chains', and what the chains and the other parameters own
   abbrev alive : SProp 𝓤
@@ -276,7 +276,7 @@ module _ {M : Type 1} (𝓤 : URA M) (H : Heap 𝓤) (A : Atoms 𝓤) (W : Given
         lets-go ! 26 (refl, refl) $ lets-go ! 24 (refl, refl) $ lets-go ! 22 (refl, refl) $ lets-go ! 20 (refl, refl) $ lets-go ! 18 (refl, refl) $ move ! (0 ∷ 17 ∷ []) $ free1 ! $
         lets-go ! 14 (refl, refl) $ lets-go ! 12 (refl, refl) $ lets-go ! 10 (refl, refl) $ lets-go ! 8 (refl, refl) $ lets-go ! 6 (refl, refl) $ lets-go ! 4 (refl, refl) $ lets-go ! 2 (refl, refl) $
         free0 ! $
-        by ! (exits r w ws (subst (λ (t : Writing). Wrote out t r (bytes ws)) (write-taken ys xs (lent-as (namesIn ys)) (counts .0) (counts .1 .0) (counts .1 .1 .0) (length out) long) (e .0))))))))))))))))))))))))))))))))))))
+        by ! (exits r w ws (subst (λ (t : Writing). Wrote out t r (bytes ws)) (write-taken ys xs (lent-as (namesIn ys)) (record { chains = counts .0; residues = counts .1 .0; atoms = counts .1 .1 .0 }) (length out) long) (e .0))))))))))))))))))))))))))))))))))))
 
 module _ {M : Type 1} (𝓤 : URA M) (H : Heap 𝓤) (A : Atoms 𝓤) (W : Given 𝓤 H A) (mem : Memory → SProp 𝓤) (run : Routine → Fun 𝓤) where
   write-structure-meets : (𝓣 : Tables 𝓤 H) → Triple 𝓤 (𝓣 .C #no-names) (NoNames 𝓤 H A mem run) → Triple 𝓤 (𝓣 .C #take-names) (TakeNames 𝓤 H A mem run) → Triple 𝓤 (𝓣 .C #write-from) (WriteFrom 𝓤 H A mem run)

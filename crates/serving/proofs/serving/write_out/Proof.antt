@@ -23,6 +23,9 @@ entry s =
     (s .args .positions .now)
     (s .args .occupancies .now)
 
+sizes-of-requires : tie.Need-sizes-of-requires
+sizes-of-requires c κs = search needs
+
 write-by-names-requires : tie.Need-write-by-names-requires
 write-by-names-requires c κs = search needs
 
@@ -73,9 +76,10 @@ same-length-12 c = refl
 
 returns : tie.Need-returns
 returns c =
-    let t = c .before .before .before .before .before .before .before .before .before .before .before .before .before .before .before .before .before .before .before .before .before .before .before .before .before .before .before .before .before in
+    let t = c .before .before .before .before .before .before .before .before .before .before .before .before .before .before .before .before .before .before .before .before .before .before .before .before .before .before .before .before .before .before in
+    let n = c .before .before .before .before .before .before .before .sizes-of in
     let w = c .before .before .before .before .before .write-by-names in
-    put-out (entry t) (t .args .counts) (t .args .out .now) _ _ (w .ensures) _ (c .before .written .given .1)
+    put-out (entry t) (t .args .counts) (t .args .out .now) _ (n .ensures) _ _ (w .ensures) _ (c .before .written .given .1)
 
 same-length-13 : tie.Need-same-length-13
 same-length-13 c = c .before .before .before .before .before .before .before .before .before .before .before .before .before .before .before .before .before .before .before .before .before .before .before .before .before .before .before .before .before .before .before .before .before .before .before .before .before .out .given
@@ -115,15 +119,17 @@ same-length-24 c = c .before .occupancies .given
 
 returns-2 : tie.Need-returns-2
 returns-2 c =
-    let t = c .before .before .before .before .before .before .before .before .before .before .before .before .before .before .before .before .before .before .before .before .before .before .before .before .before .before .before .before .before .before .before .before .before .before .before .before .before .before .before .before .before .before .before .before .before .before .before .before .before .before .before .before .before .before .before .before .before .before .before .before .before .before in
+    let t = c .before .before .before .before .before .before .before .before .before .before .before .before .before .before .before .before .before .before .before .before .before .before .before .before .before .before .before .before .before .before .before .before .before .before .before .before .before .before .before .before .before .before .before .before .before .before .before .before .before .before .before .before .before .before .before .before .before .before .before .before .before .before .before in
+    let n = c .before .before .before .before .before .before .before .before .before .before .before .before .before .before .before .before .before .before .before .before .before .before .before .before .before .before .before .before .before .before .before .before .before .before .before .before .before .before .before .before .sizes-of in
     let w = c .before .before .before .before .before .before .before .before .before .before .before .before .before .before .before .before .before .before .before .before .before .before .before .before .before .before .before .before .before .before .before .before .before .before .before .before .before .before .write-by-names in
     let cleared = c .before .before .before .before .before .before .before .before .before .before .before .before .before .before .before .before .before .before .before .before .before .clear-records in
-    put-nothing (entry t) (t .args .counts) (t .args .out .now) _ _ (w .ensures) _ _ (c .before .before .before .before .before .before .before .before .before .before .before .before .before .before .before .before .before .before .before .before .before .before .before .before .before .before .before .before .before .before .before .before .before .before .written2 .given .1) (cleared .ensures ∙ all-cleared (entry t))
+    put-nothing (entry t) (t .args .counts) (t .args .out .now) _ (n .ensures) _ _ (w .ensures) _ _ (c .before .before .before .before .before .before .before .before .before .before .before .before .before .before .before .before .before .before .before .before .before .before .before .before .before .before .before .before .before .before .before .before .before .before .written2 .given .1) (cleared .ensures ∙ all-cleared (entry t))
 
 pub write-out-spec : {M : Type 1} → statement M
 write-out-spec =
     tie.close
     (tie.spec
+    sizes-of-requires
     write-by-names-requires
     enum-known-written
     enum-known-written-2

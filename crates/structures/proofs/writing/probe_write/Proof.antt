@@ -118,7 +118,7 @@ module _ {M : Type 1} (𝓤 : URA M) (H : Heap 𝓤) (A : Atoms 𝓤) (W : Given
   lent-as = slices-now (a .1 .1)
 
   abbrev written-as : List ℕ → Writing
-  written-as names = writeOf (lent-as names) (counts .0) (counts .1 .0) (counts .1 .1 .0) (length out)
+  written-as names = writeOf (lent-as names) (record { chains = counts .0; residues = counts .1 .0; atoms = counts .1 .1 .0 }) (length out)
 
   abbrev WriteLasts : Type 0
   WriteLasts = Lasts write.ended (κs .1) (a .1)

@@ -3,7 +3,7 @@ use mathlib.Core.Path.{_≡_, sym, ap, _∙_, subst}
 use mathlib.Core.List.{List, map}
 use Prim.Native.Nat.{ℕ}
 use borrow.Author.Tests.{not-true, not-false}
-use Rattle.model.specs.Lent.{listFrom}
+use Rattle.model.specs.Lent.{listFrom, residueFrom}
 use Rattle.model.specs.Lists.{any}
 use Rattle.model.specs.Records.{ResidueRecord}
 use Rattle.model.specs.Termini.{isPolymer}
@@ -11,7 +11,7 @@ use Rattle.texts.specs.Emitted.{Emitted}
 use Rattle.texts.proofs.EmittedLaws.{then}
 use Rattle.wellformed.proofs.SliceLaws.{map-from}
 use Rattle.writer.specs.Text.{linesText, polymerList}
-use Rattle.writer.specs.Walking.{residueFrom, polymersOf}
+use Rattle.writer.specs.Walking.{polymersOf}
 use Rattle.writer.proofs.NothingEmitted.{nothing}
 use Rattle.writer.proofs.NumberWalk.{alone}
 use Rattle.writer.proofs.PolymerList.{rows-none, rows-some, list-some}

@@ -18,14 +18,14 @@ use Rattle.writer.proofs.unwritable.first_unwritable.Statement.{stateme
 use Rattle.writer.proofs.unwritable.first_unwritable.Tie as tie
 
 abbrev Inv-loop : tie.InvT-loop
-Inv-loop chains residue-keys residue-names residue-codes residue-categories residue-positions atom-keys atom-names elements positions occupancies chain-count residue-count atom-count walk₀ i₀ walk i =
+Inv-loop chains residue-keys residue-names residue-codes residue-categories residue-positions atom-keys atom-names elements positions occupancies counts walk₀ i₀ walk i =
     let l = lentOf chains residue-keys residue-names residue-codes residue-categories residue-positions atom-keys atom-names elements positions occupancies in
-    (unwritableIn (modelIn l chain-count residue-count atom-count) ≡ leftFrom l chain-count residue-count atom-count i)
-    × Walked l residue-count atom-count i walk
+    (unwritableIn (modelIn l counts) ≡ leftFrom l counts i)
+    × Walked l (counts .residues) (counts .atoms) i walk
 
 abbrev μ-loop : tie.MeasureT-loop
-μ-loop chains residue-keys residue-names residue-codes residue-categories residue-positions atom-keys atom-names elements positions occupancies chain-count residue-count atom-count walk₀ i₀ walk i =
-    atom-count - i
+μ-loop chains residue-keys residue-names residue-codes residue-categories residue-positions atom-keys atom-names elements positions occupancies counts walk₀ i₀ walk i =
+    counts .atoms - i
 
 -- the slices at entry
 abbrev lent : tie.Start Inv-loop μ-loop → Lent
@@ -46,8 +46,8 @@ lent s =
 abbrev start : tie.At-loop Inv-loop μ-loop → tie.Start Inv-loop μ-loop
 start p = p .before .before .before .before .before .before .before .before .before .before .before .before
 
-one-more : (s : tie.Start Inv-loop μ-loop) {i : ℕ} → i < s .args .atom-count → i + 1 < 2 ^ 64
-one-more s h = omega (arith, few-atoms (lent s) (s .args .chain-count) (s .args .residue-count) (s .args .atom-count) (s .pre))
+one-more : (s : tie.Start Inv-loop μ-loop) {i : ℕ} → i < s .args .counts .atoms → i + 1 < 2 ^ 64
+one-more s h = omega (arith, few-atoms (lent s) (s .args .counts) (s .pre))
 
 nearer : {n i : ℕ} → i < n → n - (i + 1) < n - i
 nearer h = omega arith
@@ -55,23 +55,23 @@ nearer h = omega arith
 -- what is answered of the atom that the walk has come to
 module _ (p : tie.After-is-unwritable Inv-loop μ-loop) where
   abbrev s : tie.Start Inv-loop μ-loop
-  s = start (p .before .before .before .before)
+  s = start (p .before .before .before .before .before)
 
   abbrev at : ℕ
-  at = p .before .before .before .before .loop .i
+  at = p .before .before .before .before .before .loop .i
 
   abbrev from : Walk
-  from = p .before .before .before .before .loop .walk
+  from = p .before .before .before .before .before .loop .walk
 
   on : p .before .walk-to .result ≡ walkedOn (lent s) at from
   unfolding atomOut
   on = p .before .walk-to .ensures ∙ ap (λ (a : Atom). walkedTo (residueIn (lent s)) from (a .key)) (p .before .before .atom-at .ensures)
 
-  seen : p .is-unwritable .result ≡ seenAt (lent s) (s .args .chain-count) (s .args .residue-count) (s .args .atom-count) at from
+  seen : p .is-unwritable .result ≡ seenAt (lent s) (s .args .counts) at from
   seen =
       p .is-unwritable .ensures
-      ∙ ap (λ (a : Atom). unwritableBy (take (s .args .chain-count) (s .args .chains .now)) a (p .before .walk-to .result)) (p .before .before .atom-at .ensures)
-      ∙ ap (unwritableBy (take (s .args .chain-count) (s .args .chains .now)) (atomOut (atomIn (lent s) at))) on
+      ∙ ap (λ (a : Atom). unwritableBy (take (s .args .counts .chains) (s .args .chains .now)) a (p .before .walk-to .result)) (p .before .before .atom-at .ensures)
+      ∙ ap (unwritableBy (take (s .args .counts .chains) (s .args .chains .now)) (atomOut (atomIn (lent s) at))) on
 
 begin-walk-requires : tie.Need-begin-walk-requires Inv-loop μ-loop
 begin-walk-requires c κs = search needs
@@ -80,53 +80,53 @@ loop-holds : tie.Need-loop-holds Inv-loop μ-loop
 loop-holds c =
     let s = c .before .before .before .before .before .before .before .before .before .before .before in
     let a = s .args in
-    (left-all (lent s) (a .chain-count) (a .residue-count) (a .atom-count), subst (Walked (lent s) (a .residue-count) (a .atom-count) 0) (sym (c .begin-walk .ensures)) (walk-begins (lent s) (a .chain-count) (a .residue-count) (a .atom-count) (s .pre)))
+    (left-all (lent s) (a .counts), subst (Walked (lent s) (a .counts .residues) (a .counts .atoms) 0) (sym (c .begin-walk .ensures)) (walk-begins (lent s) (a .counts) (s .pre)))
 
 atom-at-requires : tie.Need-atom-at-requires Inv-loop μ-loop
 atom-at-requires c κs = search needs
 
 walk-to-requires : tie.Need-walk-to-requires Inv-loop μ-loop
 walk-to-requires c κs =
-    let q = c .before .before in
+    let q = c .before .before .before in
     let s = start q in
     let a = s .args in
-    let can = walk-can (lent s) (a .chain-count) (a .residue-count) (a .atom-count) (s .pre) (q .loop .i) (c .before .loop-test .taken) (q .loop .walk) (q .loop .inv .1) in
-    (lt-of-lt-of-le (can .0) (counted (lent s) (a .chain-count) (a .residue-count) (a .atom-count) (s .pre) .ofResidueKeys), can .1)
+    let can = walk-can (lent s) (a .counts) (s .pre) (q .loop .i) (c .before .if1 .taken) (q .loop .walk) (q .loop .inv .1) in
+    (lt-of-lt-of-le (can .0) (counted (lent s) (a .counts) (s .pre) .ofResidueKeys), can .1)
 
 is-unwritable-requires : tie.Need-is-unwritable-requires Inv-loop μ-loop
 is-unwritable-requires c κs =
-    let s = start (c .before .before .before) in
-    counted (lent s) (s .args .chain-count) (s .args .residue-count) (s .args .atom-count) (s .pre) .ofChains
+    let s = start (c .before .before .before .before) in
+    counted (lent s) (s .args .counts) (s .pre) .ofChains
 
 add-result : tie.Need-add-result Inv-loop μ-loop
-add-result c = record { fits = one-more (s (c .before)) (c .before .before .before .before .loop-test .taken) }
+add-result c = record { fits = one-more (s (c .before)) (c .before .before .before .before .if1 .taken) }
 
 returns : tie.Need-returns Inv-loop μ-loop
 returns c =
     let p = c .before in
-    let q = p .before .before .before .before in
+    let q = p .before .before .before .before .before in
     let a = s p .args in
-    sym (q .loop .inv .0 ∙ left-found (lent (s p)) (a .chain-count) (a .residue-count) (a .atom-count) (s p .pre) (at p) (p .before .before .before .loop-test .taken) (from p) (q .loop .inv .1) _ (seen p) (c .if1 .taken))
+    sym (q .loop .inv .0 ∙ left-found (lent (s p)) (a .counts) (s p .pre) (at p) (p .before .before .before .if1 .taken) (from p) (q .loop .inv .1) _ (seen p) (c .if2 .taken))
 
 add-i : tie.Need-add-i Inv-loop μ-loop
-add-i c = record { fits = one-more (s (c .before)) (c .before .before .before .before .loop-test .taken) }
+add-i c = record { fits = one-more (s (c .before)) (c .before .before .before .before .if1 .taken) }
 
 loop-less : tie.Need-loop-less Inv-loop μ-loop
-loop-less c = nearer (c .before .before .before .before .loop-test .taken)
+loop-less c = nearer (c .before .before .before .before .if1 .taken)
 
 loop-again : tie.Need-loop-again Inv-loop μ-loop
 loop-again c =
     let p = c .before in
-    let q = p .before .before .before .before in
+    let q = p .before .before .before .before .before in
     let a = s p .args in (
-      q .loop .inv .0 ∙ left-on (lent (s p)) (a .chain-count) (a .residue-count) (a .atom-count) (s p .pre) (at p) (p .before .before .before .loop-test .taken) (from p) (q .loop .inv .1) _ (seen p) (c .if1 .left),
-      subst (Walked (lent (s p)) (a .residue-count) (a .atom-count) (at p + 1)) (sym (on p)) (walk-goes (lent (s p)) (a .chain-count) (a .residue-count) (a .atom-count) (s p .pre) (at p) (p .before .before .before .loop-test .taken) (from p) (q .loop .inv .1)),
+      q .loop .inv .0 ∙ left-on (lent (s p)) (a .counts) (s p .pre) (at p) (p .before .before .before .if1 .taken) (from p) (q .loop .inv .1) _ (seen p) (c .if2 .left),
+      subst (Walked (lent (s p)) (a .counts .residues) (a .counts .atoms) (at p + 1)) (sym (on p)) (walk-goes (lent (s p)) (a .counts) (s p .pre) (at p) (p .before .before .before .if1 .taken) (from p) (q .loop .inv .1)),
     )
 
 returns-2 : tie.Need-returns-2 Inv-loop μ-loop
 returns-2 c =
-    let a = start (c .before) .args in
-    sym (c .before .loop .inv .0 ∙ left-none (lent (start (c .before))) (a .chain-count) (a .residue-count) (a .atom-count) (c .before .loop .i) (c .loop-test .left))
+    let a = start (c .before .before) .args in
+    sym (c .before .before .loop .inv .0 ∙ left-none (lent (start (c .before .before))) (a .counts) (c .before .before .loop .i) (c .if1 .left))
 
 pub first-unwritable-spec : {M : Type 1} → statement M
 first-unwritable-spec =

@@ -2,8 +2,9 @@
 use mathlib.Core.Path.{ap, _∙_}
 use native.Mathlib.Numerals.{add-one}
 use borrow.Author.Tests.{eq-eqb, ne-eqb}
+use Rattle.model.specs.Lent.{residueFrom}
 use Rattle.model.specs.TakenOut.{residueOut}
-use Rattle.writer.specs.Walking.{residueFrom, numberAfter, walkedTo}
+use Rattle.writer.specs.Walking.{numberAfter, walkedTo}
 use borrow.Author.Needs.{needs}
 use Rattle.writer.proofs.walking.walk_to.Statement.{statement}
 use Rattle.writer.proofs.walking.walk_to.Tie as tie

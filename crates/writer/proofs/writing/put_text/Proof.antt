@@ -30,7 +30,7 @@ lent s =
     (s .args .occupancies .now)
 
 abbrev model : tie.Start → Model
-model s = modelIn (lent s) (s .args .chain-count) (s .args .residue-count) (s .args .atom-count)
+model s = modelIn (lent s) (s .args .counts)
 
 put-opening-requires : tie.Need-put-opening-requires
 put-opening-requires c κs = search needs
@@ -39,7 +39,7 @@ put-polymer-list-requires : tie.Need-put-polymer-list-requires
 put-polymer-list-requires c κs =
     let s = c .before .before .before .before .before .before .before .before .before .before .before .before .before .before .before .before in
     let a = s .args in
-    (ascending (lent s) (a .chain-count) (a .residue-count) (a .atom-count) (s .pre), few-residues (lent s) (a .chain-count) (a .residue-count) (a .atom-count) (s .pre))
+    (ascending (lent s) (a .counts) (s .pre), few-residues (lent s) (a .counts) (s .pre))
 
 put-atom-loop-requires : tie.Need-put-atom-loop-requires
 put-atom-loop-requires c κs = search needs

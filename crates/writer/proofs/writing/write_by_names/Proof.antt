@@ -30,7 +30,7 @@ abbrev start : tie.After-is-well-formed → tie.Start
 start p = p .before .before .before .before .before .before .before .before .before .before .before .before
 
 -- what the test says where it passes
-well : (p : tie.Else1) → let s = start (p .before) in wellFormedIn (lent s) (s .args .chain-count) (s .args .residue-count) (s .args .atom-count) ≡ true
+well : (p : tie.Else1) → let s = start (p .before) in wellFormedIn (lent s) (s .args .counts) ≡ true
 well p = sym (p .before .is-well-formed .ensures) ∙ not-false _ (p .if1 .left)
 
 is-well-formed-requires : tie.Need-is-well-formed-requires
@@ -39,7 +39,7 @@ is-well-formed-requires c κs = search needs
 returns : tie.Need-returns
 returns c =
     let s = start (c .before) in
-    not-well-formed (s .args .out .now) (lent s) (s .args .chain-count) (s .args .residue-count) (s .args .atom-count) (sym (c .before .is-well-formed .ensures) ∙ not-true _ (c .if1 .taken))
+    not-well-formed (s .args .out .now) (lent s) (s .args .counts) (sym (c .before .is-well-formed .ensures) ∙ not-true _ (c .if1 .taken))
 
 write-writable-requires : tie.Need-write-writable-requires
 write-writable-requires c κs = well (c .before)
@@ -52,7 +52,7 @@ returns-2 c =
     let rest = c .before .before in
     let passed = rest .before .before in
     let s = start (passed .before) in
-    subst (λ (w : Writing). Wrote (s .args .out .now) w (rest .write-writable .result) (rest .write-writable .last .0)) (well-formed (s .args .out .now) (lent s) (s .args .chain-count) (s .args .residue-count) (s .args .atom-count) (well passed)) (rest .write-writable .ensures)
+    subst (λ (w : Writing). Wrote (s .args .out .now) w (rest .write-writable .result) (rest .write-writable .last .0)) (well-formed (s .args .out .now) (lent s) (s .args .counts) (well passed)) (rest .write-writable .ensures)
 
 pub write-by-names-spec : {M : Type 1} → statement M
 write-by-names-spec =

@@ -34,7 +34,7 @@ lent s =
     (s .args .occupancies .now)
 
 abbrev model : tie.Start → Model
-model s = modelIn (lent s) (s .args .chain-count) (s .args .residue-count) (s .args .atom-count)
+model s = modelIn (lent s) (s .args .counts)
 
 none : (l : List ℕ) → length l ≡ 0 → l ≡ []
 none [] e = refl
@@ -49,7 +49,7 @@ module _ (p : tie.After-put-text) where
   text = textOf (model s)
 
   short : length text < 2 ^ 32
-  short = text-short (lent s) (s .args .chain-count) (s .args .residue-count) (s .args .atom-count) (s .pre)
+  short = text-short (lent s) (s .args .counts) (s .pre)
 
   needed : p .put-text .result ≡ length text
   needed = p .put-text .ensures .place (omega (arith, short)) ∙ omega arith

@@ -25,7 +25,7 @@ lent s =
     (s .args .occupancies .now)
 
 abbrev model : tie.Start → Model
-model s = modelIn (lent s) (s .args .chain-count) (s .args .residue-count) (s .args .atom-count)
+model s = modelIn (lent s) (s .args .counts)
 
 first-unwritable-requires : tie.Need-first-unwritable-requires
 first-unwritable-requires c κs = search needs
