@@ -18,7 +18,7 @@ fn main() {
             println!("cargo::rustc-link-lib=static={name}");
         } else {
             println!(
-                "cargo::error=There is no file {}: make it with `tools/staticlib {name} build/lib`, or set PROVED_LIB to the full path of its folder.",
+                "cargo::error=There is no file {}: make it with `tools/staticlib build/lib {name}`, or set PROVED_LIB to the full path of its folder.",
                 library.display()
             );
         }

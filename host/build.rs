@@ -14,7 +14,7 @@ fn main() {
         println!("cargo::rustc-link-lib=static=service");
     } else {
         println!(
-            "cargo::error=There is no file {}: make it with `tools/staticlib service build/lib`, or set PROVED_LIB to the full path of its folder.",
+            "cargo::error=There is no file {}: make it with `tools/staticlib build/lib service`, or set PROVED_LIB to the full path of its folder.",
             library.display()
         );
     }
