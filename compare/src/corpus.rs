@@ -23,6 +23,8 @@ fn read(folder: &Path) -> io::Result<Vec<String>> {
         .map(|entry| entry.map(|entry| entry.path()))
         .collect();
     let mut paths = paths?;
+    // Folders beside the mmCIF files hold files of other formats.
+    paths.retain(|path| path.is_file());
     paths.sort();
     paths.iter().map(fs::read_to_string).collect()
 }
