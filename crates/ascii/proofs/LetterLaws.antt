@@ -1,7 +1,7 @@
 -- A turn of the loop that compares two texts is one clause of `eqIgnoreCase`, by what its test said.
 use mathlib.Core.Path.{_≡_, refl, ap, _∙_}
 use mathlib.Core.List.{List, [], _∷_}
-use mathlib.Core.Bool.{Bool, true, false, _&&_}
+use mathlib.Core.Bool.{Bool, true, false, _&&_, and-false}
 use Prim.Native.Nat.{ℕ, suc, _+_, _<_}
 use native.Mathlib.Numerals.{add-one}
 use lib.Dec.{eqb}
@@ -39,7 +39,3 @@ same-length [] [] h = absurd (h refl)
 same-length [] (c ∷ t) h = refl
 same-length (b ∷ s) [] h = refl
 same-length (b ∷ s) (c ∷ t) h = ap (λ (r : Bool). eqb (lowercase b) (lowercase c) && r) (same-length s t (λ e. h (ap suc e))) ∙ and-false (eqb (lowercase b) (lowercase c))
-  where
-    and-false : (r : Bool) → (r && false) ≡ false
-    and-false true = refl
-    and-false false = refl

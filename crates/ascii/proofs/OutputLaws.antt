@@ -1,13 +1,14 @@
--- What becomes of a text and of the buffer, by whether the text fits.
+-- What becomes of a text and of the buffer, by whether the text fits. A copy that is one byte longer is one store more, behind those that were made.
 use mathlib.Core.Path.{_≡_, refl, sym, ap, _∙_}
 use mathlib.Core.List.{List, [], _∷_, _++_}
 use mathlib.Core.Bool.{Bool, true, false, not}
 use Prim.Native.Nat.{ℕ, suc, _+_, _-_, _≤_, _<_}
 use native.Mathlib.Nat.{add-zero, add-suc, suc-add, add-assoc, le-refl}
+use native.Mathlib.Numerals.{add-one}
 use native.Mathlib.Omega.{arith}
 use lib.Dec.{T, leb, leb→le, nleb→lt}
-use lib.ListN.{length, set, length-append}
-use lib.Seq.{set-comm, sets}
+use lib.ListN.{length, getD, take, set, length-append}
+use lib.Seq.{set-comm, sets, take-suc, take-all, length-take-le}
 use borrow.Author.Tests.{le-leb, lt-leb}
 use Rattle.ascii.specs.declared.output.Placed.the-variants.{Next, NoRoom}
 use Rattle.ascii.specs.Output.{Stored, fits, placedOf, bufferAfter}
@@ -65,6 +66,20 @@ stored-append {d} {e} {f} {at} {i} {j} {s} {t} p q = record {
   bytes = q .bytes ∙ ap (λ (k : ℕ). sets e k t) (p .place) ∙ ap (λ (l : List ℕ). sets l (at + length s) t) (p .bytes) ∙ sets-append d at s t;
   place = q .place ∙ ap (λ (k : ℕ). k + length t) (p .place) ∙ add-assoc at (length s) (length t) ∙ ap (λ (k : ℕ). at + k) (sym (length-append s t));
 }
+
+-- a byte behind a text is one store more, and so is a copy that is one byte longer
+pub store-more : (d : List ℕ) (at : ℕ) (s : List ℕ) (b : ℕ) → set (sets d at s) (at + length s) b ≡ sets d at (s ++ b ∷ [])
+store-more d at s b = sets-append d at s (b ∷ [])
+
+module _ (d : List ℕ) (at : ℕ) (text : List ℕ) (i : ℕ) where
+  pub copy-more : i < length text → set (sets d at (take i text)) (at + i) (getD text i 0) ≡ sets d at (take (i + 1) text)
+  copy-more h =
+      ap (λ (n : ℕ). set (sets d at (take i text)) (at + n) (getD text i 0)) (sym (length-take-le i text (omega arith)))
+      ∙ store-more d at (take i text) (getD text i 0)
+      ∙ ap (sets d at) (sym (take-suc text i 0 h) ∙ ap (λ (n : ℕ). take n text) (sym (add-one i)))
+
+  pub copy-end : length text ≤ i → sets d at (take i text) ≡ sets d at text
+  copy-end h = ap (sets d at) (take-all i text h)
 
 -- ---- a run of bytes stored from the right
 

@@ -13,6 +13,7 @@ pub use digits::number_from;
 pub use letters::eq_ignore_ascii_case;
 pub use output::Placed;
 pub use output::fits_at;
+pub use output::put_text;
 pub use signs::after_sign;
 pub use words::same_bytes;
 pub use words::starts_with;

@@ -3,7 +3,7 @@ use Prim.{tt}
 use mathlib.Core.Path.{_≡_, refl, sym, ap, _∙_}
 use mathlib.Core.List.{List, [], _∷_, map}
 use Prim.Native.Nat.{ℕ, _^_, _<_, compare, Ordering, Ordering·lt, Ordering·eq, Ordering·gt}
-use native.Mathlib.Nat.{mod-lt, div-add-mod'}
+use native.Mathlib.Nat.{mod-lt}
 use native.Mathlib.Omega.{arith}
 use lib.Dec.{ltb}
 use borrow.Author.Tests.{lt-ltb, le-ltb, ltb-true}
@@ -12,8 +12,10 @@ use Rattle.records.specs.Places.{below, Ascending, placeIn}
 use Rattle.records.proofs.OrderLaws.{below-first, below-not, below-second}
 use Rattle.model.specs.Keys.{atomPlace}
 use Rattle.model.specs.Map.{Entry, Map}
-use Rattle.model.proofs.ListLaws.{same-test}
 use Rattle.model.specs.Finished.{keyPart, namePart}
+use Rattle.model.proofs.KeysGiveBack.{whole-place}
+use Rattle.model.proofs.KeysTellApart.{split-place}
+use Rattle.model.proofs.ListLaws.{same-test}
 use Rattle.building.proofs.MapPlaces.{keys}
 
 abbrev pub split : ℕ → ℕ × ℕ
@@ -23,14 +25,8 @@ split k = (keyPart k, namePart k)
 name-small : (k : ℕ) → namePart k < 2 ^ 64
 name-small k = mod-lt k (omega arith)
 
-whole : (k : ℕ) → atomPlace (keyPart k) (namePart k) ≡ k
-whole k = div-add-mod' k (2 ^ 64)
-
-apart : (p q a b : ℕ) → a < 2 ^ 64 → b < 2 ^ 64 → atomPlace p a ≡ atomPlace q b → (p ≡ q) × (a ≡ b)
-apart p q a b h k e = (omega arith, omega arith)
-
 pub parts : (key name : ℕ) → name < 2 ^ 64 → (keyPart (atomPlace key name) ≡ key) × (namePart (atomPlace key name) ≡ name)
-parts key name h = apart _ _ _ _ (name-small (atomPlace key name)) h (whole (atomPlace key name))
+parts key name h = split-place _ _ _ _ (name-small (atomPlace key name)) h (whole-place (atomPlace key name))
 
 by-number : (p q a b : ℕ) → a < 2 ^ 64 → b < 2 ^ 64 → below (p, a) (q, b) ≡ ltb (atomPlace p a) (atomPlace q b)
 by-number p q a b h k = go (compare p q) (compared p q)
@@ -47,8 +43,8 @@ by-number p q a b h k = go (compare p q) (compared p q)
 below-split : (a b : ℕ) → below (split a) (split b) ≡ ltb a b
 below-split a b =
     by-number (keyPart a) (keyPart b) (namePart a) (namePart b) (name-small a) (name-small b)
-    ∙ ap (λ (x : ℕ). ltb x (atomPlace (keyPart b) (namePart b))) (whole a)
-    ∙ ap (ltb a) (whole b)
+    ∙ ap (λ (x : ℕ). ltb x (atomPlace (keyPart b) (namePart b))) (whole-place a)
+    ∙ ap (ltb a) (whole-place b)
 
 -- ---- lists of them
 module _ {W : Type 0} where

@@ -1,7 +1,7 @@
 -- A chain that is there is stored over itself, and a new one behind all others: that is the model's list with the chain.
 use Prim.{tt}
 use mathlib.Core.Path.{_≡_, refl, sym, ap, _∙_, subst}
-use mathlib.Core.Bool.{Bool, true, false, cond, not, _||_, false≢true}
+use mathlib.Core.Bool.{Bool, true, false, cond, not, _||_}
 use mathlib.Core.List.{List, [], _∷_, _++_}
 use Prim.Native.Nat.{ℕ, suc, _≤_, _<_}
 use native.Mathlib.Omega.{arith}
@@ -9,6 +9,7 @@ use lib.Dec.{eqb, leb}
 use lib.ListN.{length, take, getD, set, length-append}
 use lib.Seq.{getD-take, set-getD, take-suc-set}
 use borrow.Author.Tests.{leb-true, leb-false, eq-eqb, ne-eqb, eqb-false, not-true, not-false}
+use Rattle.ascii.proofs.TestLaws.{neither-of}
 use Rattle.model.specs.Chains.{chainPlace, withChain}
 use Rattle.model.specs.Lists.{any}
 use Rattle.model.proofs.ChainsFirstMet.{isMet, with-chain, place-past}
@@ -38,14 +39,10 @@ any-behind d c (x ∷ l) = go (eqb d x) (any-behind d c l)
     go true e = refl
     go false e = e
 
-neither : (t u : Bool) → (t || u) ≡ false → (t ≡ false) × (u ≡ false)
-neither true u e = absurd (false≢true (sym e))
-neither false u e = (refl, e)
-
 distinct-behind : (c : ℕ) (l : List ℕ) → Distinct l → any (eqb c) l ≡ false → Distinct (l ++ (c ∷ []))
 distinct-behind c [] s a = (refl, tt)
 distinct-behind c (d ∷ l) s a =
-    let q = neither (eqb c d) (any (eqb c) l) a in
+    let q = neither-of (eqb c d) (any (eqb c) l) a in
     let e : eqb d c ≡ false = ne-eqb d c (λ w. eqb-false c d (q .0) (sym w)) in
     (any-behind d c l ∙ ap (λ (b : Bool). b || eqb d c) (s .0) ∙ e, distinct-behind c l (s .1) (q .1))
 

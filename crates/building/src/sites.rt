@@ -8,11 +8,10 @@ use crate::residues::put_residue;
 use crate::room::has_no_room;
 use gaps::Spot;
 use model::Room;
+use model::residue_key;
 use rows::Point3;
 use rows::Site;
 ghost use mathlib.Core.Path.{_≡_};
-ghost use Prim.Native.Nat.{_≤_};
-ghost use Rattle.model.specs.Keys.{residueKey};
 ghost use Rattle.model.specs.Lists.{count};
 ghost use Rattle.model.specs.Lent.{coordinates};
 ghost use Rattle.building.specs.Holds.{records, sizesOf};
@@ -54,16 +53,6 @@ pub struct Places {
 }
 
 // ---- where it goes
-
-// A residue's key, by the place of its chain among at most 4,096.
-fn residue_key(place: usize, sequence: u32, code: u8) -> u64
-    ensures { λ r. ⌜ (place ≤ 4096 → r ≡ residueKey place sequence code) ⌝ }
-{
-    if 4096 < place {
-        return 0;
-    }
-    place as u64 * 1099511627776 + sequence as u64 * 256 + code as u64
-}
 
 fn places_of(
     chains: &[u64],

@@ -5,9 +5,9 @@ use Prim.Native.Nat.{ℕ, _-_}
 use lib.Ieee.{Float}
 use lib.ListN.{length, take, replicate}
 use Rattle.records.specs.Clearing.{cleared, zeroFloat, zeroPoint}
-use Rattle.model.specs.Lent.{Lent, lentOf, padded, holding, emptyModel}
+use Rattle.model.specs.Lent.{Lent, lentOf, noRecords, padded, holding, emptyModel}
 use Rattle.model.specs.declared.room.Room.{Room}
-use Rattle.finishing.specs.Clearing.{clearedFrom, noRecords}
+use Rattle.finishing.specs.Clearing.{clearedFrom}
 
 module _ {A : Type 0} (z : A) where
   pub cleared-padded : (n k : ℕ) (l m : List A) → take n l ≡ m → n ≡ length m → length l ≡ k → cleared z n l ≡ padded z k m

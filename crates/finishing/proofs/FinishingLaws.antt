@@ -12,7 +12,7 @@ use Rattle.model.specs.Classes.{classOf, isLone}
 use Rattle.model.specs.declared.classes.Class.{Class}
 use Rattle.model.specs.Finished.{unknown, known, atomRecord, classified, positioned, allPositioned, modelFrom, unless, finishedOf, Peopled}
 use Rattle.model.specs.Fold.{State}
-use Rattle.model.specs.Lent.{Lent, lentOf, roomOf, coordinates, padded, holding}
+use Rattle.model.specs.Lent.{Lent, lentOf, roomOf, noRecords, coordinates, padded, holding}
 use Rattle.model.specs.Records.{ResidueRecord, AtomRecord}
 use Rattle.model.specs.Termini.{ruledPosition}
 use Rattle.model.proofs.AscendingLaws.{map-ascends}
@@ -22,7 +22,7 @@ use Rattle.building.specs.Holds.{recordsIn, Holds, sizesOf}
 use Rattle.finishing.specs.declared.finished.Finish.{Finish}
 use Rattle.finishing.specs.declared.finished.Finish.the-variants.{Unknown}
 use Rattle.finishing.specs.Classing.{classAt, unknownAt, firstPlace, Classified}
-use Rattle.finishing.specs.Clearing.{clearedFrom, noRecords}
+use Rattle.finishing.specs.Clearing.{clearedFrom}
 use Rattle.finishing.specs.Filling.{filled}
 use Rattle.finishing.specs.Finishing.{answerOf, leftBy, Ends, keptBy, finishBy}
 use Rattle.finishing.specs.Positioning.{positionAt}

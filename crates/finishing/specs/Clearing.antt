@@ -17,7 +17,3 @@ clearedFrom l kept = record {
   positions = cleared zeroPoint (kept .atoms) (l .positions);
   occupancies = cleared zeroFloat (kept .atoms) (l .occupancies);
 }
-
--- none stays
-abbrev pub noRecords : Room
-noRecords = record { chains = 0; residues = 0; atoms = 0 }

@@ -3,11 +3,10 @@ use mathlib.Core.Path.{_≡_}
 use Prim.Native.Nat.{ℕ, zero, suc}
 use Rattle.model.specs.Finished.{Finished, unknown, known, finishedOf, Peopled}
 use Rattle.model.specs.Fold.{State}
-use Rattle.model.specs.Lent.{Lent, roomOf, holding, emptyModel}
+use Rattle.model.specs.Lent.{Lent, roomOf, noRecords, holding, emptyModel}
 use Rattle.model.specs.declared.room.Room.{Room}
 use Rattle.building.specs.declared.sites.Counts.{Counts}
 use Rattle.building.specs.Holds.{recordsIn, sizesOf, Holds}
-use Rattle.finishing.specs.Clearing.{noRecords}
 use Rattle.finishing.specs.declared.finished.Finish.{Finish}
 use Rattle.finishing.specs.declared.finished.Finish.the-variants.{Unknown, Known}
 

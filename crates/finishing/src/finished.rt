@@ -5,6 +5,7 @@ use crate::positions::position_residues;
 use building::Counts;
 use building::sizes_of;
 use model::Room;
+use model::no_records;
 ghost use mathlib.Core.Path.{_≡_};
 ghost use Rattle.model.specs.Lent.{lent};
 ghost use Rattle.finishing.specs.Finishing.{keptBy, finishBy, Ends};
@@ -22,11 +23,7 @@ fn kept_by(unknown: usize, counts: Counts) -> Room
     if unknown == 0 {
         return sizes_of(counts);
     }
-    Room {
-        chains: 0,
-        residues: 0,
-        atoms: 0,
-    }
+    no_records()
 }
 
 fn finish_by(unknown: usize) -> Finish

@@ -6,6 +6,7 @@ use Prim.Native.Nat.{ℕ}
 use lib.Dec.{eqb}
 use Rattle.ascii.specs.Bytes.{first, isTextByte}
 use Rattle.ascii.specs.Lists.{every}
+use Rattle.ascii.proofs.TestLaws.{right-of}
 use Rattle.lines.specs.Domain.{inDomain}
 use Rattle.lines.specs.Lines.{onto, linesOf}
 
@@ -17,10 +18,6 @@ onto-text : (b : ℕ) (lines : List (List ℕ)) → isTextByte b ≡ true → Ar
 onto-text b [] h e = rw h
 onto-text b (line ∷ lines) h e = rw h e
 
-and-second : (t u : Bool) → (t && u) ≡ true → u ≡ true
-and-second true u e = e
-and-second false u e = absurd (false≢true e)
-
 pub lines-are-text : (text : List ℕ) → inDomain text ≡ true → every (every isTextByte) (linesOf text) ≡ true
 unfolding inDomain linesOf
 lines-are-text [] e = refl
@@ -29,7 +26,7 @@ lines-are-text (b ∷ bs) e = go (isTextByte b) (eqb b 10) (eqb b 13 && eqb (fir
     go :
         (t u v : Bool) → isTextByte b ≡ t → ((t || (u || v)) && inDomain bs) ≡ true → (inDomain bs ≡ true → AreText (linesOf bs))
         → AreText (cond u ([] ∷ linesOf bs) (cond v (linesOf bs) (onto b (linesOf bs))))
-    go t true v h e further = further (and-second (t || true) (inDomain bs) e)
-    go t false true h e further = further (and-second (t || true) (inDomain bs) e)
+    go t true v h e further = further (right-of (t || true) (inDomain bs) e)
+    go t false true h e further = further (right-of (t || true) (inDomain bs) e)
     go true false false h e further = onto-text b (linesOf bs) h (further e)
     go false false false h e further = absurd (false≢true e)

@@ -62,7 +62,7 @@ place-in i (suc n) x h k = go (eqb x i) refl (λ w. place-in (suc i) n x w (omeg
         apart : x ≡ i → ⊥
         apart = eqb-false x i e
 
-in-place : (i n x : ℕ) → List·Memᴰ x (listFrom (λ j. j) i n) → x < i + n
+pub in-place : (i n x : ℕ) → List·Memᴰ x (listFrom (λ j. j) i n) → x < i + n
 unfolding listFrom
 in-place i zero x d = absurd (List·Memᴰ·not-nil d)
 in-place i (suc n) x d = go (in-place (suc i) n x) (List·Memᴰ·cases-cons d)

@@ -63,7 +63,7 @@ chain-by-place c d (x ∷ l) h e = go (eqb c x) refl (eqb d x) refl h e (chain-b
 split-key : (p q a b c d : ℕ) → a < 2 ^ 32 → b < 2 ^ 32 → c < 2 ^ 8 → d < 2 ^ 8 → residueKey p a c ≡ residueKey q b d → (p ≡ q) × (a ≡ b) × (c ≡ d)
 split-key p q a b c d h i j k e = (omega arith, omega arith, omega arith)
 
-split-place : (p q a b : ℕ) → a < 2 ^ 64 → b < 2 ^ 64 → atomPlace p a ≡ atomPlace q b → (p ≡ q) × (a ≡ b)
+pub split-place : (p q a b : ℕ) → a < 2 ^ 64 → b < 2 ^ 64 → atomPlace p a ≡ atomPlace q b → (p ≡ q) × (a ≡ b)
 split-place p q a b h k e = (omega arith, omega arith)
 
 pub key-by-residue : (l : List ℕ) (s t : Site) → OneResidue s t → residueAt l t ≡ residueAt l s

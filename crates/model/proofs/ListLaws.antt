@@ -1,23 +1,14 @@
 -- Tests, filters and members of lists.
 use Prim.{tt}
 use mathlib.Core.Path.{_≡_, refl, sym, ap, _∙_, subst}
-use mathlib.Core.Bool.{Bool, true, false, cond, _&&_, _||_, false≢true, or-true, or-assoc}
+use mathlib.Core.Bool.{Bool, true, false, cond, _||_, false≢true, or-true, or-assoc}
 use mathlib.Core.Logic.{_⊎_, inl, inr}
 use mathlib.Core.List.{List, [], _∷_, _++_, map, List·Memᴰ, List·Memᴰ·head, List·Memᴰ·tail, List·Memᴰ·not-nil, List·Memᴰ·cases-cons}
 use Rattle.model.specs.Lists.{filter, any, All}
+-- those of two tests together, for all that cite this file
+pub use Rattle.ascii.proofs.TestLaws.{both, left-of, right-of}
 
 -- ---- tests
-pub both : (a b : Bool) → a ≡ true → b ≡ true → (a && b) ≡ true
-both a b p q = rw (p, q)
-
-pub left-of : (a b : Bool) → (a && b) ≡ true → a ≡ true
-left-of true b e = refl
-left-of false b e = e
-
-pub right-of : (a b : Bool) → (a && b) ≡ true → b ≡ true
-right-of true b e = e
-right-of false b e = absurd (false≢true e)
-
 pub same-test : (a b : Bool) → (a ≡ true → b ≡ true) → (b ≡ true → a ≡ true) → a ≡ b
 same-test true b f g = sym (f refl)
 same-test false true f g = g refl

@@ -1,7 +1,7 @@
 -- The runs of a list that rises are the ascending list of its members: a number that is met again is next to itself, so that each member begins one run.
 use Prim.{tt}
 use mathlib.Core.Path.{_≡_, refl, sym, ap, _∙_, subst}
-use mathlib.Core.Bool.{Bool, true, false, cond}
+use mathlib.Core.Bool.{Bool, true, false, cond, false≢true}
 use mathlib.Core.Logic.{_⊎_, inl, inr}
 use mathlib.Core.List.{List, [], _∷_, map, List·Memᴰ, List·Memᴰ·head, List·Memᴰ·tail, List·Memᴰ·not-nil, List·Memᴰ·cases-cons}
 use Prim.Native.Nat.{ℕ, suc, _≤_}
@@ -11,7 +11,7 @@ use lib.Dec.{eqb}
 use borrow.Author.Tests.{eqb-true, eqb-false, eq-eqb}
 use Rattle.model.specs.Map.{Map, AscendingFrom}
 use Rattle.model.specs.WellFormed.{sameList, runsAfter, runsOf}
-use Rattle.model.proofs.ListLaws.{both}
+use Rattle.model.proofs.ListLaws.{both, left-of, right-of}
 use Rattle.model.proofs.WalkLaws.{RisingFrom}
 
 -- each number is above the one before it, from b on
@@ -106,6 +106,15 @@ same-list l m e = subst (λ (n : List ℕ). sameList l n ≡ true) e (self l)
     self : (l : List ℕ) → sameList l l ≡ true
     self [] = refl
     self (x ∷ l) = both (eqb x x) (sameList l l) (eq-eqb x x refl) (self l)
+
+pub list-same : (l m : List ℕ) → sameList l m ≡ true → l ≡ m
+list-same [] [] e = refl
+list-same [] (y ∷ m) e = absurd (false≢true e)
+list-same (x ∷ l) [] e = absurd (false≢true e)
+list-same (x ∷ l) (y ∷ m) e =
+    let h : x ≡ y = eqb-true x y (left-of (eqb x y) (sameList l m) e) in
+    let t : l ≡ m = list-same l m (right-of (eqb x y) (sameList l m) e) in
+    λ i. h i ∷ t i
 
 -- ---- the keys of a map
 pub keys-ascend : {W : Type 0} (b : ℕ) (m : Map W) → AscendingFrom b m → AscendsFrom b (map (λ e. e .key) m)

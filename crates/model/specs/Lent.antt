@@ -71,6 +71,10 @@ roomOf l = record {
       (min (length (l .atomKeys)) (min (length (l .atomNames)) (min (length (l .elements)) (min (length (l .positions)) (length (l .occupancies))))));
 }
 
+-- no room, and no records
+abbrev pub noRecords : Room
+noRecords = record { chains = 0; residues = 0; atoms = 0 }
+
 -- ---- the model in the slices
 
 abbrev pub coordinates : Point3 → List Float

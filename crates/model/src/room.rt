@@ -2,12 +2,22 @@
 use records::smaller;
 ghost use mathlib.Core.Path.{_≡_};
 ghost use Prim.Native.Nat.{min};
-ghost use Rattle.model.specs.Lent.{lent, roomOf};
+ghost use Rattle.model.specs.Lent.{lent, roomOf, noRecords};
 
 pub struct Room {
     pub chains: usize,
     pub residues: usize,
     pub atoms: usize,
+}
+
+pub fn no_records() -> Room
+    ensures { λ r. ⌜ r ≡ noRecords ⌝ }
+{
+    Room {
+        chains: 0,
+        residues: 0,
+        atoms: 0,
+    }
 }
 
 fn smallest(a: usize, b: usize, c: usize, d: usize, e: usize) -> usize

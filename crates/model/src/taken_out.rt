@@ -1,5 +1,7 @@
 // A record taken out of the lent slices by value; zero in every field where there is none.
-use crate::walks::chain_part;
+use crate::keys::chain_part;
+use crate::keys::code_part;
+use crate::keys::sequence_part;
 use ascii::byte_at;
 use records::f64_at;
 use records::point_at;
@@ -61,8 +63,8 @@ pub fn residue_at(
     let key = u64_at(keys, i);
     Residue {
         chain: chain_part(key),
-        sequence: signed((key % 1099511627776 / 256) as u32),
-        insertion_code: (key % 256) as u8,
+        sequence: signed(sequence_part(key)),
+        insertion_code: code_part(key),
         name: u64_at(names, i),
         code: byte_at(codes, i),
         category: byte_at(categories, i),

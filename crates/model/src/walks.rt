@@ -1,4 +1,5 @@
 // What a walk over slices in order sees from where it stands, so that each slice is walked once.
+use crate::keys::chain_part;
 use crate::termini::is_polymer;
 use crate::termini::position_of;
 use records::smaller;
@@ -6,7 +7,6 @@ ghost use mathlib.Core.Path.{_≡_};
 ghost use Prim.Native.Nat.{_+_};
 ghost use lib.ListN.{drop, take};
 ghost use Rattle.records.specs.Places.{pairs};
-ghost use Rattle.model.specs.Keys.{chainPart};
 ghost use Rattle.model.specs.Walks.{lessers, aloneIn, metWith, endsChain, positionBetween};
 
 // Past those of the first n that are less than key, from an index on.
@@ -36,13 +36,6 @@ pub fn is_alone(keys: &[u64], n: usize, at: usize, key: u64) -> bool
         return true;
     }
     keys[at + 1] != key
-}
-
-// The place of a residue's chain, by its key.
-pub fn chain_part(key: u64) -> u64
-    ensures { λ r. ⌜ r ≡ chainPart key ⌝ }
-{
-    key / 1099511627776
 }
 
 // The chain, from 1, of the last Standard non-HOH residue that was met, this one included.

@@ -106,5 +106,9 @@ unpacked-short zero n = le-refl 0
 unpacked-short (suc k) zero = omega arith
 unpacked-short (suc k) (suc n) = suc-le-suc (unpacked-short k (suc n % 256 ^ k))
 
+-- a name that has bytes has a first one in front of the others
+pub first-in-front : (n : ℕ) → (n ≡ 0 → ⊥) → unpacked n ≡ first (unpacked n) ∷ drop 1 (unpacked n)
+first-in-front n h = rw (unpacked-some 7 n h)
+
 pub one-less : (n m : ℕ) → (n ≡ 0 → ⊥) → unpacked m ≡ drop 1 (unpacked n) → length (unpacked n) ≡ suc (length (unpacked m))
 one-less n m h e = rw (e, unpacked-some 7 n h)

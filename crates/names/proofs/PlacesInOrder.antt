@@ -2,7 +2,7 @@
 use mathlib.Core.Path.{_≡_, refl, sym, ap, _∙_, subst}
 use mathlib.Core.Logic.{⊎-elim}
 use mathlib.Core.List.{List, [], _∷_}
-use mathlib.Core.Bool.{Bool, true, false, _&&_, cond}
+use mathlib.Core.Bool.{Bool, true, false, cond}
 use Prim.Native.Nat.{ℕ, zero, suc, _≤_, _<_, suc-le-suc}
 use native.Mathlib.Nat.{le-of-suc-le-suc, not-suc-le-zero, zero-lt-suc, lt-trans, eq-or-lt-of-le, lt-of-le-of-lt}
 use native.Mathlib.Decide.{decLt}
@@ -11,6 +11,7 @@ use lib.Dec.{eqb, ltb}
 use lib.ListN.{length, getD, take}
 use lib.Seq.{take-length}
 use borrow.Author.Tests.{eq-eqb, ne-eqb, ltb-true}
+use Rattle.ascii.proofs.TestLaws.{left-of, right-of}
 use Rattle.records.specs.declared.places.Place as place
 use Rattle.records.specs.declared.places.Place.the-variants as found
 use Rattle.records.specs.Places.{Ascending, Found}
@@ -44,19 +45,11 @@ place-within n (x ∷ l) i e = go (eqb x n) (placeOf n l) (place-within n l) e
     go false Nowhere h e = let z : _≡_ {A = ℕ} 0 1 = cc in omega arith
 
 -- ---- in ascending order
-and-left : (a b : Bool) → (a && b) ≡ true → a ≡ true
-and-left true b e = refl
-and-left false b e = e
-
-and-right : (a b : Bool) → (a && b) ≡ true → b ≡ true
-and-right true b e = e
-and-right false b e = let z : _≡_ {A = ℕ} 0 1 = cc in absurd (omega arith)
-
 ascending : (l : List ℕ) → ascends l ≡ true → Ascending ltb l
 unfolding ascends Ascending
 ascending [] e = tt
 ascending (x ∷ []) e = (tt, tt)
-ascending (x ∷ y ∷ l) e = (and-left (ltb x y) (ascends (y ∷ l)) e, ascending (y ∷ l) (and-right (ltb x y) (ascends (y ∷ l)) e))
+ascending (x ∷ y ∷ l) e = (left-of (ltb x y) (ascends (y ∷ l)) e, ascending (y ∷ l) (right-of (ltb x y) (ascends (y ∷ l)) e))
 
 -- ---- what a search finds there
 module _ (l : List ℕ) (n : ℕ) (a : ascends l ≡ true) where

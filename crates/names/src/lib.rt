@@ -7,6 +7,8 @@ mod table;
 
 pub use elements::element_of;
 pub use elements::symbol_of;
+pub use packing::after_first;
+pub use packing::first_byte;
 pub use packing::pack;
 pub use packing::unpack;
 pub use residues::FoundCategory;

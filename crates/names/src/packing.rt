@@ -21,14 +21,15 @@ pub fn pack(name: &[u8]) -> u64
     number
 }
 
-fn first_byte(name: u64) -> u8
+// The first byte of a packed name; 0 where it has none.
+pub fn first_byte(name: u64) -> u8
     ensures { λ r. ⌜ r ≡ first (unpacked name) ⌝ }
 {
     (name / TOP) as u8
 }
 
 // The name without its first byte.
-fn after_first(name: u64) -> u64
+pub fn after_first(name: u64) -> u64
     ensures { λ r. ⌜ unpacked r ≡ drop 1 (unpacked name) ⌝ }
 {
     name % TOP * 256

@@ -1,6 +1,7 @@
 pub mod BitsLaws
 pub mod ClosestLaw
 pub mod Comparing
+pub mod DigitLaws
 pub mod DivisionLaw
 pub mod GrammarLaws
 pub mod NearestLaw

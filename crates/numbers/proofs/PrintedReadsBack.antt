@@ -1,21 +1,20 @@
 -- What is printed is read back as the double nearest the printed decimal: the text spells its sign, its whole digits and its places, which together
 -- write the units, and it has few enough digits to be within reach.
 use mathlib.Core.Path.{_≡_, refl, sym, ap, _∙_, subst}
-use mathlib.Core.List.{List, [], _∷_, _++_, append-assoc, append-nil}
+use mathlib.Core.List.{List, [], _∷_, _++_}
 use mathlib.Core.Bool.{Bool, true, false, _&&_, cond}
-use Prim.Native.Nat.{ℕ, zero, suc, _+_, _-_, _*_, _/_, _%_, _^_, _≤_, _<_}
-use native.Mathlib.Nat.{zero-add, add-zero, zero-mul, mul-one, pow-suc, mod-lt, mod-eq-of-lt, zero-lt-suc, le-trans, le-of-eq, div-lt-iff-lt-mul, mul-right-comm, mul-le-mul-right, div-add-mod'}
+use Prim.Native.Nat.{ℕ, _+_, _-_, _*_, _/_, _%_, _^_, _≤_, _<_}
+use native.Mathlib.Nat.{add-zero, mul-one, mod-eq-of-lt, le-trans, le-of-eq, div-lt-iff-lt-mul, mul-right-comm, mul-le-mul-right, div-add-mod'}
 use native.Mathlib.Omega.{arith}
-use lib.Arith.{mod-mul}
 use lib.Dec.{T, leb, eqb, leb→le, lit<, lit≤}
 use lib.ListN.{length, take, drop}
 use lib.Seq.{take-at, drop-at, take-length, drop-length}
 use lib.Ieee.{Float, nan, inf, fin, binary64, round, up, down}
 use lib.Ieee.Fits.{down-pos}
 use lib.Ieee.Nearest.{closest, closest-mono}
-use borrow.Author.Tests.{ne-eqb, le-leb, lt-leb}
+use borrow.Author.Tests.{ne-eqb, lt-leb}
 use Rattle.ascii.specs.Bytes.{first}
-use Rattle.ascii.specs.Digits.{isDigit, digitOf, digitRun, numberFrom}
+use Rattle.ascii.specs.Digits.{digitRun, numberFrom}
 use Rattle.ascii.specs.Letters.{lowercase, eqIgnoreCase}
 use Rattle.numbers.specs.declared.reading.Number.the-variants.{Value}
 use Rattle.numbers.specs.Grammar.{decimal, isWord, parts, afterWhole, unsigned, spellingOf}
@@ -25,6 +24,7 @@ use Rattle.numbers.specs.Rounding.{printable, unitsOf, isNegative}
 use Rattle.numbers.specs.Printing.{lastDigits, countUpTo, digitCount, sign, fixedText, textOf}
 use Rattle.numbers.specs.Nearest.{NearestTo}
 use Rattle.numbers.proofs.Comparing.{nearest-lt}
+use Rattle.numbers.proofs.DigitLaws.{run-digits, digits-run, from-digits, digits-write, BeginsDigit, begins-digit, differs, no-sign}
 use Rattle.ascii.proofs.SignLaws.{after-none}
 use Rattle.numbers.proofs.GrammarLaws.{parts-decimal, whole-point, unsigned-digits}
 use Rattle.numbers.proofs.NearestLaw.{round-is-nearest}
@@ -32,78 +32,7 @@ use Rattle.numbers.proofs.PowerLaws.{ten-positive}
 use Rattle.numbers.proofs.PrintingLaws.{count-enough, count-few, count-some, digits-length}
 use Rattle.numbers.proofs.ReadingLaws.{read-near}
 
--- ---- a digit
-digit-yes : (x : ℕ) → x < 10 → isDigit (48 + x) ≡ true
-digit-yes x h = simp (le-leb 48 (48 + x) (omega arith), le-leb (48 + x) 57 (omega arith))
-
-digit-is : (x : ℕ) → x < 10 → digitOf (48 + x) ≡ x
-digit-is x h = ap (λ (b : Bool). cond b (48 + x - 48) 0) (digit-yes x h) ∙ omega arith
-
-below-ten : (n : ℕ) → n % 10 < 10
-below-ten n = mod-lt n (zero-lt-suc 9)
-
--- ---- the last digits of a number: how long their run is, and what they write
-run-digit : (x : ℕ) (t : List ℕ) → x < 10 → digitRun ((48 + x) ∷ t) ≡ suc (digitRun t)
-unfolding digitRun
-run-digit x t h = simp (digit-yes x h)
-
-run-digits : (c n : ℕ) (t : List ℕ) → digitRun (lastDigits c n ++ t) ≡ c + digitRun t
-unfolding lastDigits
-run-digits zero n t = sym (zero-add (digitRun t))
-run-digits (suc c) n t =
-    ap digitRun (append-assoc (lastDigits c (n / 10)) ((48 + n % 10) ∷ []) t)
-    ∙ run-digits c (n / 10) ((48 + n % 10) ∷ t)
-    ∙ ap (λ (k : ℕ). c + k) (run-digit (n % 10) t (below-ten n))
-    ∙ omega arith
-
-from-append : (m : ℕ) (s t : List ℕ) → numberFrom m (s ++ t) ≡ numberFrom (numberFrom m s) t
-unfolding numberFrom
-from-append m [] t = refl
-from-append m (b ∷ s) t = from-append (m * 10 + digitOf b) s t
-
-from-digits : (m c n : ℕ) → numberFrom m (lastDigits c n) ≡ m * 10 ^ c + n % 10 ^ c
-unfolding lastDigits numberFrom
-from-digits m zero n = omega arith
-from-digits m (suc c) n =
-    let p = 10 ^ c in
-    from-append m (lastDigits c (n / 10)) ((48 + n % 10) ∷ [])
-    ∙ ap (λ (k : ℕ). k * 10 + digitOf (48 + n % 10)) (from-digits m c (n / 10))
-    ∙ ap (λ (d : ℕ). (m * p + n / 10 % p) * 10 + d) (digit-is (n % 10) (below-ten n))
-    ∙ regroup m p (n / 10 % p) (n % 10)
-    ∙ ap (λ (k : ℕ). m * (p * 10) + k) (sym (mod-mul n (ten-positive c) (zero-lt-suc 9)))
-    ∙ ap (λ (q : ℕ). m * q + n % q) (sym (pow-suc 10 c))
-  where
-    regroup : (m p q r : ℕ) → (m * p + q) * 10 + r ≡ m * (p * 10) + (q * 10 + r)
-    regroup m p q r = omega arith
-
--- ---- no word and no sign begins with a digit
-pub record BeginsDigit (s : List ℕ) : Type 0 where
-  pub lo : 48 ≤ first s
-  pub hi : first s ≤ 57
-
-begins-digit : (s : List ℕ) (k : ℕ) → digitRun s ≡ suc k → BeginsDigit s
-unfolding digitRun
-begins-digit [] k e = absurd (no e)
-  where
-    no : 0 ≡ suc k → ⊥
-    no e = omega arith
-begins-digit (b ∷ s) k e = go (leb 48 b) (leb b 57) (leb→le 48 b) (leb→le b 57) e
-  where
-    no : 0 ≡ suc k → ⊥
-    no e = omega arith
-
-    go : (u v : Bool) → (T u → 48 ≤ b) → (T v → b ≤ 57) → cond (u && v) (suc (digitRun s)) 0 ≡ suc k → BeginsDigit (b ∷ s)
-    go true true h j e = record { lo = h tt; hi = j tt }
-    go true false h j e = absurd (no e)
-    go false v h j e = absurd (no e)
-
-differs : (s : List ℕ) (b : ℕ) → BeginsDigit s → b < 48 → first s ≡ b → ⊥
-differs s b d h e = omega arith
-
-no-sign : (s : List ℕ) → BeginsDigit s → isSign (first s) ≡ false
-unfolding isSign
-no-sign s d = simp (ne-eqb (first s) 45 (differs s 45 d (lit< tt)), ne-eqb (first s) 43 (differs s 43 d (lit< tt)))
-
+-- ---- no word begins with a digit
 no-letter : (b c : ℕ) (s w : List ℕ) → b ≤ 57 → 65 ≤ lowercase c → eqIgnoreCase (b ∷ s) (c ∷ w) ≡ false
 unfolding eqIgnoreCase
 no-letter b c s w h k =
@@ -121,14 +50,10 @@ no-word [] d = absurd (none (d .lo))
     none h = omega arith
 no-word (b ∷ s) d = simp (no-letter b 105 s (110 ∷ 102 ∷ []) (d .hi) (lit≤ tt), no-letter b 105 s (110 ∷ 102 ∷ 105 ∷ 110 ∷ 105 ∷ 116 ∷ 121 ∷ []) (d .hi) (lit≤ tt), no-letter b 110 s (97 ∷ 110 ∷ []) (d .hi) (lit≤ tt))
 
--- ---- where a run of digits ends
+-- ---- a point ends a run of digits
 point-ends : (s : List ℕ) → digitRun (46 ∷ s) ≡ 0
 unfolding digitRun
 point-ends s = refl
-
-nothing-ends : digitRun [] ≡ 0
-unfolding digitRun
-nothing-ends = refl
 
 -- ---- some digits, a point, some digits
 module _ (W F : List ℕ) (w : digitRun (W ++ (46 ∷ F)) ≡ length W) (f : digitRun F ≡ length F) (some : 0 < length W) where
@@ -182,7 +107,7 @@ module _ (places : ℕ) (negative : Bool) (n : ℕ) (few : places ≤ 8) (near :
   unfolding allTogether
   units-are c h =
       let p = 10 ^ places in
-      ap (λ (k : ℕ). numberFrom k (lastDigits places n)) (from-digits 0 c (n / p) ∙ ap (λ (k : ℕ). k + n / p % 10 ^ c) (zero-mul (10 ^ c)) ∙ zero-add (n / p % 10 ^ c) ∙ mod-eq-of-lt h)
+      ap (λ (k : ℕ). numberFrom k (lastDigits places n)) (digits-write c (n / p) ∙ mod-eq-of-lt h)
       ∙ from-digits (n / p) places n
       ∙ div-add-mod' n p
 
@@ -202,7 +127,7 @@ module _ (places : ℕ) (negative : Bool) (n : ℕ) (few : places ≤ 8) (near :
       ap readAs
       (spelling-fixed W F
       (run-digits c w (46 ∷ F) ∙ ap (λ (k : ℕ). c + k) (point-ends F) ∙ add-zero c ∙ sym W-long)
-      (ap digitRun (sym (append-nil F)) ∙ run-digits places n [] ∙ ap (λ (k : ℕ). places + k) nothing-ends ∙ add-zero places ∙ sym F-long)
+      (digits-run places n ∙ sym F-long)
       (subst (λ (k : ℕ). 0 < k) (sym W-long) some) negative)
       ∙ read-near negative W F (omega arith) (subst (λ (k : ℕ). allTogether W F ≤ 1000000 * 10 ^ k) (sym F-long) (subst (λ (v : ℕ). v ≤ 1000000 * 10 ^ places) (sym all) near))
       ∙ ap (λ (v : ℕ). Value (round binary64 negative v (10 ^ length F))) all

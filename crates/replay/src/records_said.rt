@@ -32,9 +32,9 @@ fn say_double(x: f64) {
 
 // The chain's place from 0, the sequence number plus 2 ^ 31, the insertion code.
 fn say_key(key: u64) {
-    say_field(key / 1099511627776);
-    say_field(key % 1099511627776 / 256);
-    say_field(key % 256);
+    say_field(model::chain_part(key));
+    say_field(model::sequence_part(key) as u64);
+    say_field(model::code_part(key) as u64);
 }
 
 fn say_chain(name: u64) {

@@ -1,7 +1,7 @@
 -- An insertion code that a text can hold, and the group of a row, are read as they were written.
 use mathlib.Core.Path.{_≡_, refl, sym}
 use mathlib.Core.List.{[], _∷_}
-use mathlib.Core.Bool.{Bool, true, false, not, _||_, cond, true≢false}
+use mathlib.Core.Bool.{Bool, true, false, not, _||_, cond}
 use Prim.Native.Nat.{ℕ}
 use native.Mathlib.Omega.{arith}
 use lib.Dec.{eqb}
@@ -9,6 +9,7 @@ use borrow.Author.Tests.{eqb-true}
 use Rattle.ascii.specs.Bytes.{bytes, isTextByte}
 use Rattle.ascii.specs.Letters.{eqIgnoreCase}
 use Rattle.ascii.specs.Words.{sameBytes}
+use Rattle.ascii.proofs.TestLaws.{neither-of}
 use Rattle.tokens.specs.Quote.{allPlain}
 use Rattle.words.specs.Words.{isHetatm}
 use Rattle.rows.specs.Fields.{insertionCodeOf}
@@ -26,10 +27,6 @@ pub record CodeSo (code : ℕ) : Type 0 where
   pub coded : isCode code ≡ true
   pub writable : isUnwritableCode code ≡ false
 
-pub either-false : (t u : Bool) → (t || u) ≡ false → (t ≡ false) × (u ≡ false)
-either-false true u e = absurd (true≢false e)
-either-false false u e = (refl, e)
-
 record Apart (b : ℕ) : Type 0 where
   space : eqb b 32 ≡ false
   tab : eqb b 9 ≡ false
@@ -41,11 +38,11 @@ record Apart (b : ℕ) : Type 0 where
 apart : (b : ℕ) → isUnwritableCode b ≡ false → Apart b
 unfolding isUnwritableCode
 apart b e =
-    let h5 = either-false (eqb b 32 || eqb b 9 || eqb b 39 || eqb b 34 || eqb b 46) (eqb b 63) e in
-    let h4 = either-false (eqb b 32 || eqb b 9 || eqb b 39 || eqb b 34) (eqb b 46) (h5 .0) in
-    let h3 = either-false (eqb b 32 || eqb b 9 || eqb b 39) (eqb b 34) (h4 .0) in
-    let h2 = either-false (eqb b 32 || eqb b 9) (eqb b 39) (h3 .0) in
-    let h1 = either-false (eqb b 32) (eqb b 9) (h2 .0) in
+    let h5 = neither-of (eqb b 32 || eqb b 9 || eqb b 39 || eqb b 34 || eqb b 46) (eqb b 63) e in
+    let h4 = neither-of (eqb b 32 || eqb b 9 || eqb b 39 || eqb b 34) (eqb b 46) (h5 .0) in
+    let h3 = neither-of (eqb b 32 || eqb b 9 || eqb b 39) (eqb b 34) (h4 .0) in
+    let h2 = neither-of (eqb b 32 || eqb b 9) (eqb b 39) (h3 .0) in
+    let h1 = neither-of (eqb b 32) (eqb b 9) (h2 .0) in
     record { space = h1 .0; tab = h1 .1; single = h2 .1; double = h3 .1; point = h4 .1; question = h5 .1 }
 
 pub code-word : (code : ℕ) → CodeSo code → Word (codeText code)

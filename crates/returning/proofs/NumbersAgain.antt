@@ -27,6 +27,7 @@ use Rattle.tokens.proofs.QuoteLaws.{plain-append}
 use Rattle.rows.specs.declared.fields.Coordinate.the-variants.{Missing, Given}
 use Rattle.rows.specs.Fields.{coordinateOf}
 use Rattle.texts.specs.Fields.{decimalOf, sequenceText, coordinateText}
+use Rattle.writer.proofs.TextIsShort.{decimal-fits}
 use Rattle.returning.specs.Returned.{printed}
 use Rattle.returning.proofs.DigitsAgain.{digits-plain, digits-text, decimal-some, decimal-word, decimal-digits, decimal-number, decimal-first, decimal-unsigned}
 use Rattle.returning.proofs.FieldLaws.{IsText, text-append, Word}
@@ -34,10 +35,7 @@ use Rattle.returning.proofs.FieldLaws.{IsText, text-append, Word}
 -- ---- sequence numbers
 minus-word : (n : ℕ) → Word (byte "-" ∷ decimalOf n)
 unfolding allPlain
-minus-word n = let w = decimal-word n in record { some = omega arith; plain = w .plain; text = w .text; short = omega (arith, decimal-short n) }
-  where
-    decimal-short : (n : ℕ) → length (decimalOf n) ≤ 20
-    decimal-short n = omega (arith, digits-length (digitCount n) n, digit-count-fits n)
+minus-word n = let w = decimal-word n in record { some = omega arith; plain = w .plain; text = w .text; short = omega (arith, decimal-fits n) }
 
 pub sequence-word : (s : ℕ) → Word (sequenceText s)
 unfolding sequenceText

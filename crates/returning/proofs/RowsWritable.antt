@@ -9,13 +9,13 @@ use lib.Dec.{eqb}
 use lib.ListN.{length, getD}
 use borrow.Author.Tests.{not-true}
 use Rattle.ascii.specs.Bytes.{bytes}
+use Rattle.ascii.proofs.TestLaws.{neither-of}
 use Rattle.names.specs.Packing.{packed}
 use Rattle.model.specs.Keys.{chainPart, sequencePart, codePart}
 use Rattle.model.specs.Records.{ResidueRecord, AtomRecord, Model}
 use Rattle.model.specs.WellFormed.{isCode}
 use Rattle.writer.specs.Text.{residueFor, atomRowOf}
 use Rattle.writer.specs.Unwritable.{holdsBothQuotes, isUnwritableCode, isUnwritable, firstUnwritable}
-use Rattle.returning.proofs.CodesAgain.{either-false}
 use Rattle.returning.proofs.NamesAgain.{NameSo}
 use Rattle.returning.proofs.RowsAgain.{RowSo}
 use Rattle.returning.proofs.WellFormedModel.{Well, residue-itself, one-of, residue-of, atom-of, chain-within}
@@ -48,9 +48,9 @@ atoms-writable m e a d =
     let residue = holdsBothQuotes (residueFor (m .residues) (a .key) .name) in
     let chain = holdsBothQuotes (getD (m .chains) (chainPart (a .key)) 0) in
     let code = isUnwritableCode (codePart (a .key)) in
-    let three = either-false (atom || residue || chain) code (none-unwritable m 0 (m .atoms) e a d) in
-    let two = either-false (atom || residue) chain (three .0) in
-    let one = either-false atom residue (two .0) in
+    let three = neither-of (atom || residue || chain) code (none-unwritable m 0 (m .atoms) e a d) in
+    let two = neither-of (atom || residue) chain (three .0) in
+    let one = neither-of atom residue (two .0) in
     record { atom = one .0; residue = one .1; chain = two .1; code = three .1 }
 
 -- ---- the theorems

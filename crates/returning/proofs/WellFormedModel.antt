@@ -1,9 +1,9 @@
 -- What it says of a model that it is well formed, part by part; and whose residue and chain an atom's key names.
 use mathlib.Core.Path.{_≡_, refl, sym, ap, _∙_, subst}
-use mathlib.Core.Bool.{Bool, true, false, not, _&&_, cond, false≢true}
+use mathlib.Core.Bool.{Bool, true, false, not, _&&_, cond}
 use mathlib.Core.Logic.{_⊎_, inl, inr}
 use mathlib.Core.List.{List, [], _∷_, map, List·Memᴰ, List·Memᴰ·head, List·Memᴰ·tail, List·Memᴰ·not-nil, List·Memᴰ·cases-cons, Memᴰ·map, Memᴰ·of-map}
-use Prim.Native.Nat.{ℕ, zero, suc, _+_, _≤_, _<_}
+use Prim.Native.Nat.{ℕ, zero, suc, _≤_, _<_}
 use native.Mathlib.Omega.{arith}
 use lib.Dec.{eqb, leb}
 use lib.ListN.{length, getD}
@@ -21,8 +21,10 @@ use Rattle.model.specs.Records.{ResidueRecord, AtomRecord, Model}
 use Rattle.model.specs.Termini.{ruledPosition}
 use Rattle.model.specs.WellFormed.{sameList, runsOf, differ, isName, isCode, isNear, chainsWell, classWell, residueWell, atomWell, inRuns, inOrder, wellFormed}
 use Rattle.model.proofs.AscendingLaws.{ascends-all}
+use Rattle.model.proofs.BuiltIsWellFormed.{in-place}
 use Rattle.model.proofs.EveryLaws.{every-at}
 use Rattle.model.proofs.ListLaws.{left-of, right-of, all-at}
+use Rattle.model.proofs.RunsLaws.{list-same}
 use Rattle.writer.specs.Text.{residueFor}
 use Rattle.returning.proofs.RunsAgain.{in-runs, from-runs}
 
@@ -52,15 +54,6 @@ pub record Well (m : Model) : Type 0 where
   pub atomsAscend : ascends (map (λ a. atomPlace (a .key) (a .name)) (m .atoms)) ≡ true
   pub residues : (r : ResidueRecord) → List·Memᴰ r (m .residues) → ResidueSo m r
   pub atoms : (a : AtomRecord) → List·Memᴰ a (m .atoms) → AtomSo a
-
-lists-same : (l m : List ℕ) → sameList l m ≡ true → l ≡ m
-lists-same [] [] e = refl
-lists-same [] (y ∷ m) e = absurd (false≢true e)
-lists-same (x ∷ l) [] e = absurd (false≢true e)
-lists-same (x ∷ l) (y ∷ m) e =
-    let h : x ≡ y = eqb-true x y (left-of (eqb x y) (sameList l m) e) in
-    let t : l ≡ m = lists-same l m (right-of (eqb x y) (sameList l m) e) in
-    λ i. h i ∷ t i
 
 residue-so : (m : Model) (r : ResidueRecord) → residueWell m r ≡ true → ResidueSo m r
 unfolding residueWell classWell
@@ -127,8 +120,8 @@ well m e =
       chains = λ n d.
           let t = every-at named (m .chains) (right-of (differ (m .chains)) (every named (m .chains)) c) n d in
           (left-of (isName n) (not (eqb n (packed (bytes ".")))) t, right-of (isName n) (not (eqb n (packed (bytes ".")))) t);
-      residueRuns = lists-same _ _ (left-of inChains inResidues r);
-      atomRuns = lists-same _ _ (right-of inChains inResidues r);
+      residueRuns = list-same _ _ (left-of inChains inResidues r);
+      atomRuns = list-same _ _ (right-of inChains inResidues r);
       residuesAscend = left-of keysAscend placesAscend o;
       atomsAscend = right-of keysAscend placesAscend o;
       residues = λ t d. residue-so m t (every-at (residueWell m) (m .residues) (right-of (chained && run && ordered) housed four) t d);
@@ -160,15 +153,6 @@ residue-itself (t ∷ l) a r d = go (List·Memᴰ·cases-cons d) (residue-itself
         ap (λ (b : Bool). cond b t (residueFor l (r .key))) (ne-eqb (t .key) (r .key) (λ e. omega arith)) ∙ s k
 
 -- ---- the chain of a key
-below : (i n x : ℕ) → List·Memᴰ x (listFrom (λ j. j) i n) → x < i + n
-unfolding listFrom
-below i zero x d = absurd (List·Memᴰ·not-nil d)
-below i (suc n) x d = go (below (suc i) n x) (List·Memᴰ·cases-cons d)
-  where
-    go : (List·Memᴰ x (listFrom (λ j. j) (suc i) n) → x < suc i + n) → (x ≡ i) ⊎ List·Memᴰ x (listFrom (λ j. j) (suc i) n) → x < i + suc n
-    go r (inl e) = omega arith
-    go r (inr m) = omega (arith, r m)
-
 pub one-of : (l : List ℕ) (i : ℕ) → i < length l → List·Memᴰ (getD l i 0) l
 one-of [] i h = absurd (omega arith)
 one-of (x ∷ l) zero h = List·Memᴰ·head refl
@@ -184,4 +168,4 @@ module _ (m : Model) (w : Well m) where
   pub chain-within : (r : ResidueRecord) → List·Memᴰ r (m .residues) → chainPart (r .key) < length (m .chains)
   chain-within r d =
       let k = chainPart (r .key) in
-      omega (arith, below 0 (length (m .chains)) k (subst (List·Memᴰ k) (w .residueRuns) (in-runs (map (λ r. chainPart (r .key)) (m .residues)) k (Memᴰ·map (λ r. chainPart (r .key)) d))))
+      omega (arith, in-place 0 (length (m .chains)) k (subst (List·Memᴰ k) (w .residueRuns) (in-runs (map (λ r. chainPart (r .key)) (m .residues)) k (Memᴰ·map (λ r. chainPart (r .key)) d))))

@@ -1,5 +1,5 @@
 -- A row that reaches all that it must has a token, which is not empty, at each of the seven columns: none of them is absent, and it misses none.
-use mathlib.Core.Path.{_≡_, refl, sym, ap}
+use mathlib.Core.Path.{_≡_, refl, ap}
 use mathlib.Core.Logic.{_⊎_, inl, inr}
 use mathlib.Core.List.{List, [], _∷_, List·Memᴰ, List·Memᴰ·not-nil, List·Memᴰ·cases-cons}
 use mathlib.Core.Bool.{Bool, true, false, _&&_, _||_, not, cond, false≢true}
@@ -8,6 +8,7 @@ use native.Mathlib.Omega.{arith}
 use lib.Dec.{leb}
 use lib.ListN.{length}
 use borrow.Author.Tests.{leb-false}
+use Rattle.ascii.proofs.TestLaws.{neither-of}
 use Rattle.tokens.specs.Tokens.{tokensOf, tokenAt}
 use Rattle.tokens.proofs.NoTokenIsEmpty.{token-some}
 use Rattle.rows.specs.declared.columns.Columns.{Columns}
@@ -20,10 +21,6 @@ abbrev isWhole : Reach → Bool
 isWhole Whole = true
 isWhole (ColumnMissing k) = false
 isWhole Short = false
-
-none-of-both : (t u : Bool) → (t || u) ≡ false → (t ≡ false) × (u ≡ false)
-none-of-both true u e = absurd (false≢true (sym e))
-none-of-both false u e = (refl, e)
 
 by-whole : (k : ℕ) (t u : Bool) → isWhole (reachBy k (t || u)) ≡ true → (k ≡ 0) × (t ≡ false)
 by-whole zero true u e = absurd (false≢true e)
@@ -38,7 +35,7 @@ all-reached n k (c ∷ columns) a m column d = go (isAbsent c) a m (all-reached 
     go : (t : Bool) → cond t (suc k) (firstAbsent (suc (suc k)) columns) ≡ 0 → ((not t && leb n c) || misses n columns) ≡ false
         → (firstAbsent (suc (suc k)) columns ≡ 0 → misses n columns ≡ false → (column : ℕ) → List·Memᴰ column columns → column < n) → column < n
     go true a m r = absurd (omega arith)
-    go false a m r = let e = none-of-both (leb n c) (misses n columns) m in at (leb-false n c (e .0)) (r a (e .1) column) (List·Memᴰ·cases-cons d)
+    go false a m r = let e = neither-of (leb n c) (misses n columns) m in at (leb-false n c (e .0)) (r a (e .1) column) (List·Memᴰ·cases-cons d)
       where
         at : c < n → (List·Memᴰ column columns → column < n) → (column ≡ c) ⊎ List·Memᴰ column columns → column < n
         at h r (inl e) = omega arith

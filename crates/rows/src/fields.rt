@@ -3,11 +3,13 @@ use crate::columns::Columns;
 use crate::columns::is_absent;
 use crate::reach::reach_of;
 use numbers::Number;
+use tokens::LONGEST;
 use tokens::Part;
 ghost use mathlib.Core.Path.{_≡_};
 ghost use mathlib.Core.List.{List};
 ghost use Prim.Native.Nat.{ℕ, _≤_, _<_};
 ghost use lib.ListN.{length, take};
+ghost use Rattle.tokens.specs.Longest.{longest};
 ghost use Rattle.tokens.specs.Split.{tokenIn, IsPart};
 ghost use Rattle.tokens.specs.Tokens.{tokenAt};
 ghost use Rattle.words.specs.Sequence.{sequenceOf};
@@ -264,12 +266,12 @@ fn fields_by(columns: Columns, line: &[u8], cell: &mut [u8], places: &mut [usize
 
 // The fields of a line; of one longer than 2,048 bytes, those of its first 2,048.
 pub fn fields_of(columns: Columns, line: &[u8]) -> Fields
-    ensures { λ r. ⌜ r ≡ fieldsOf columns (take 2048 (now (line .entry))) ⌝ }
+    ensures { λ r. ⌜ r ≡ fieldsOf columns (take longest (now (line .entry))) ⌝ }
 {
-    let mut cell = [0u8; 2048];
+    let mut cell = [0u8; LONGEST];
     let mut places = [0usize; 257];
-    if line.len() <= 2048 {
+    if line.len() <= LONGEST {
         return fields_by(columns, line, &mut cell, &mut places);
     }
-    fields_by(columns, &line[0..2048], &mut cell, &mut places)
+    fields_by(columns, &line[0..LONGEST], &mut cell, &mut places)
 }

@@ -4,9 +4,11 @@ use crate::heads::State;
 use crate::heads::in_state;
 use crate::heads::no_heads;
 use crate::heads::with_header;
+use tokens::LONGEST;
 ghost use mathlib.Core.Path.{_≡_};
 ghost use Prim.Native.Nat.{_≤_};
 ghost use lib.ListN.{length, take};
+ghost use Rattle.tokens.specs.Longest.{longest};
 ghost use Rattle.states.specs.States.{recordedOf, itemIn, firstRow, otherIn, movedByToken, movedBy};
 
 // At most so many headers in a loop.
@@ -102,11 +104,11 @@ fn read_within(heads: Heads, line: &[u8], cell: &mut [u8]) -> Moved
 
 // What a line does; one longer than 2,048 bytes does what its first 2,048 do.
 pub fn read_line(heads: Heads, line: &[u8]) -> Moved
-    ensures { λ r. ⌜ r ≡ movedBy heads (take 2048 (now (line .entry))) ⌝ }
+    ensures { λ r. ⌜ r ≡ movedBy heads (take longest (now (line .entry))) ⌝ }
 {
-    let mut cell = [0u8; 2048];
-    if line.len() <= 2048 {
+    let mut cell = [0u8; LONGEST];
+    if line.len() <= LONGEST {
         return read_within(heads, line, &mut cell);
     }
-    read_within(heads, &line[0..2048], &mut cell)
+    read_within(heads, &line[0..LONGEST], &mut cell)
 }

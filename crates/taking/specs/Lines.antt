@@ -4,6 +4,7 @@ use mathlib.Core.List.{List, [], _∷_}
 use Prim.Native.Nat.{ℕ, zero, suc}
 use lib.Dec.{ltb}
 use lib.ListN.{length}
+pub use Rattle.tokens.specs.Longest.{longest}
 use Rattle.rows.specs.Fields.{fieldsOf}
 use Rattle.rows.specs.Rules.{rowOf}
 use Rattle.rows.specs.declared.columns.Columns.{Columns}
@@ -22,10 +23,6 @@ use Rattle.taking.specs.declared.refusals.Refusal.{Refusal}
 use Rattle.taking.specs.declared.plans.Act.{Act}
 use Rattle.taking.specs.declared.plans.Act.the-variants.{Pass, Skip, Keep, Refuse}
 use Rattle.taking.specs.declared.plans.Plan.{Plan}
-
--- "A line is at most 2,048 bytes without its ending"
-abbrev pub longest : ℕ
-longest = 2048
 
 -- ---- what a line asks for
 

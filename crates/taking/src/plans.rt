@@ -5,13 +5,12 @@ use rows::Row;
 use rows::Site;
 use states::Does;
 use states::Heads;
+use tokens::LONGEST;
 ghost use mathlib.Core.Path.{_≡_};
 ghost use Prim.Native.Nat.{_≤_};
 ghost use lib.ListN.{length};
+ghost use Rattle.tokens.specs.Longest.{longest};
 ghost use Rattle.taking.specs.Lines.{actOf, actBy, planOf};
-
-// The longest line, without its ending.
-const LONGEST: usize = 2048;
 
 pub enum Act {
     Pass,
@@ -39,7 +38,7 @@ fn act_of(number: usize, row: Row) -> Act
 }
 
 fn act_by(number: usize, line: &[u8], columns: Columns, does: Does) -> Act
-    requires { ⌜ length (now line) ≤ 2048 ⌝ }
+    requires { ⌜ length (now line) ≤ longest ⌝ }
     ensures { λ r. ⌜ r ≡ actBy number (now (line .entry)) columns does ⌝ }
 {
     match does {

@@ -40,13 +40,6 @@ pub(crate) fn put_byte(out: &mut [u8], at: usize, b: u8) -> usize
 pub fn put_word(out: &mut [u8], at: usize, word: &[u8]) -> usize
     ensures { λ r. ⌜ Emits out at (now (word .entry)) r ⌝ }
 {
-    if !ascii::fits_at(out.len(), at, word.len()) {
-        return place_on(at, word.len());
-    }
-    let mut i = 0;
-    while i < word.len() {
-        out[at + i] = word[i];
-        i += 1;
-    }
-    at + i
+    let placed = ascii::put_text(word, out, at);
+    place_after(at, placed)
 }

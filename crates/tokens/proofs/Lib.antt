@@ -3,7 +3,6 @@ pub mod LineReadsBack
 pub mod NameReadsBack
 pub mod NoTokenIsEmpty
 pub mod PartLaws
-pub mod PutLaws
 pub mod QuoteLaws
 pub mod SplitLaws
 pub mod TokenInFront

@@ -5,6 +5,7 @@ use mathlib.Core.Bool.{true, false, false≢true}
 use Prim.Native.Nat.{ℕ}
 use native.Mathlib.Omega.{arith}
 use Rattle.ascii.specs.Bytes.{byte, first}
+use Rattle.ascii.proofs.TestLaws.{left-of, right-of}
 use Rattle.tokens.specs.declared.kinds.Kind.{Kind}
 use Rattle.tokens.specs.declared.kinds.Kind.the-variants.{Blank, Quote, Plain}
 use Rattle.tokens.specs.Kinds.{kindOf, blank, plain, isBlank, isPlain}
@@ -13,7 +14,6 @@ use Rattle.tokens.specs.Tokens.{scan, tokensFrom, tokensOf}
 use Rattle.tokens.specs.Quote.{allPlain, inQuotes, quoteOf}
 use Rattle.tokens.specs.Line.{spaced}
 use Rattle.tokens.proofs.NameReadsBack.{Parted, Writable, Bare, snoc, by-way, word-reads-back, name-reads-back}
-use Rattle.tokens.proofs.QuoteLaws.{and-true}
 use Rattle.tokens.proofs.TrimLaws.{end-stop}
 use Rattle.tokens.proofs.TokenLaws.{line-tokens}
 
@@ -44,15 +44,15 @@ begins-so b s e = rw e
 word-begins : (word rest : List ℕ) → Bare word → trimStart (word ++ rest) ≡ word ++ rest
 unfolding allPlain
 word-begins [] rest w = absurd (omega (arith, w .some))
-word-begins (b ∷ s) rest w = begins-so b (s ++ rest) (plain-no-blank b (and-true (isPlain b) (allPlain s) (w .all-plain) .0))
+word-begins (b ∷ s) rest w = begins-so b (s ++ rest) (plain-no-blank b (left-of (isPlain b) (allPlain s) (w .all-plain)))
 
 word-ends : (word before : List ℕ) → Bare word → trimEnd (before ++ word) ≡ before ++ word
 unfolding allPlain
 word-ends [] before w = absurd (omega (arith, w .some))
-word-ends (b ∷ []) before w = end-stop before b (plain-no-blank b (and-true (isPlain b) true (w .all-plain) .0))
+word-ends (b ∷ []) before w = end-stop before b (plain-no-blank b (left-of (isPlain b) true (w .all-plain)))
 word-ends (b ∷ (c ∷ s)) before w =
     ap trimEnd (sym (snoc before (c ∷ s) b))
-    ∙ word-ends (c ∷ s) (before ++ b ∷ []) (record { some = omega arith; all-plain = and-true (isPlain b) (allPlain (c ∷ s)) (w .all-plain) .1 })
+    ∙ word-ends (c ∷ s) (before ++ b ∷ []) (record { some = omega arith; all-plain = right-of (isPlain b) (allPlain (c ∷ s)) (w .all-plain) })
     ∙ snoc before (c ∷ s) b
 
 quoted-ends : (q : ℕ) (name before : List ℕ) → isBlank q ≡ false → trimEnd (before ++ inQuotes q name) ≡ before ++ inQuotes q name

@@ -1,20 +1,21 @@
 -- A name as it is written, between blanks, is read as itself: a bare word is added byte by byte, a quoted name from quote to quote, and a blank or the end of the line ends it.
 use mathlib.Core.Path.{_≡_, refl, sym, ap, _∙_, subst}
 use mathlib.Core.List.{List, [], _∷_, _++_, append-assoc, append-nil}
-use mathlib.Core.Bool.{Bool, true, false, _&&_, _||_, not, cond, true≢false, false≢true}
+use mathlib.Core.Bool.{Bool, true, false, _&&_, not, cond, true≢false, false≢true}
 use Prim.Native.Nat.{ℕ, _<_}
 use native.Mathlib.Omega.{arith}
 use lib.Dec.{eqb}
 use lib.ListN.{length}
 use borrow.Author.Tests.{eq-eqb}
 use Rattle.ascii.specs.Bytes.{byte}
+use Rattle.ascii.proofs.TestLaws.{left-of, right-of, neither-of}
 use Rattle.tokens.specs.declared.kinds.Kind.{Kind}
 use Rattle.tokens.specs.declared.kinds.Kind.the-variants.{Blank, Quote, Plain}
 use Rattle.tokens.specs.declared.tokenize.Act.the-variants.{Add, End}
 use Rattle.tokens.specs.Kinds.{kindOf, blank, plain, isBlank, isPlain}
 use Rattle.tokens.specs.Tokens.{outside, actOf, scan, tokensFrom}
 use Rattle.tokens.specs.Quote.{has, allPlain, quoteFor, inQuotes, quoteOf}
-use Rattle.tokens.proofs.QuoteLaws.{and-true, quote-bare, quote-quoted}
+use Rattle.tokens.proofs.QuoteLaws.{quote-bare, quote-quoted}
 
 -- the end of the line, or a blank, comes next
 abbrev pub Parted : List ℕ → Type 0
@@ -30,10 +31,6 @@ pub record Writable (name : List ℕ) : Type 0 where
 pub record Bare (word : List ℕ) : Type 0 where
   pub some : 0 < length word
   pub all-plain : allPlain word ≡ true
-
-or-false : (t u : Bool) → (t || u) ≡ false → (t ≡ false) × (u ≡ false)
-or-false true u e = absurd (true≢false e)
-or-false false u e = (refl, e)
 
 pub snoc : (s t : List ℕ) (b : ℕ) → (s ++ b ∷ []) ++ t ≡ s ++ b ∷ t
 snoc s t b = append-assoc s (b ∷ []) t
@@ -60,15 +57,15 @@ scan-plain : (word token rest : List ℕ) → allPlain word ≡ true → scan 0 
 unfolding scan allPlain
 scan-plain [] token rest e = ap (λ (t : List ℕ). scan 0 t rest) (sym (append-nil token))
 scan-plain (b ∷ word) token rest e =
-    let p = and-true (isPlain b) (allPlain word) e in
-    rw (plain-adds (length token) b (p .0)) (scan-plain word (token ++ b ∷ []) rest (p .1) ∙ ap (λ (t : List ℕ). scan 0 t rest) (snoc token word b))
+    rw (plain-adds (length token) b (left-of (isPlain b) (allPlain word) e))
+    (scan-plain word (token ++ b ∷ []) rest (right-of (isPlain b) (allPlain word) e) ∙ ap (λ (t : List ℕ). scan 0 t rest) (snoc token word b))
 
 -- inside a quote q, up to the next q
 scan-inside : (q : ℕ) → eqb q 0 ≡ false → (name token rest : List ℕ) → has q name ≡ false → scan q token (name ++ q ∷ rest) ≡ scan 0 (token ++ name) rest
 unfolding scan has
 scan-inside q z [] token rest e = rw (z, eq-eqb q q refl) (ap (λ (t : List ℕ). scan 0 t rest) (sym (append-nil token)))
 scan-inside q z (b ∷ name) token rest e =
-    let p = or-false (eqb b q) (has q name) e in
+    let p = neither-of (eqb b q) (has q name) e in
     rw (z, p .0) (scan-inside q z name (token ++ b ∷ []) rest (p .1) ∙ ap (λ (t : List ℕ). scan 0 t rest) (snoc token name b))
 
 scan-ends : (token rest : List ℕ) → 0 < length token → Parted rest → scan 0 token rest ≡ token ∷ tokensFrom rest

@@ -1,21 +1,18 @@
 -- A name is written in one of three ways. A turn of the loop that looks for a byte is one clause of `has`, and one of the loop that looks for plain bytes is one clause of `allPlain`.
 use mathlib.Core.Path.{_≡_, refl, ap, _∙_}
 use mathlib.Core.List.{List, [], _∷_, _++_}
-use mathlib.Core.Bool.{Bool, true, false, _&&_, _||_, false≢true}
+use mathlib.Core.Bool.{Bool, true, false, _&&_, _||_}
 use Prim.Native.Nat.{ℕ, _+_, _≤_, _<_}
 use native.Mathlib.Omega.{arith}
 use native.Mathlib.Numerals.{add-one}
 use lib.Dec.{eqb}
-use lib.ListN.{length, getD, drop, drop-of-length-le}
+use lib.ListN.{length, getD, drop, drop-of-length-le, length-append}
 use lib.Seq.{drop-cons}
 use borrow.Author.Tests.{eq-eqb, ne-eqb}
 use Rattle.ascii.specs.Bytes.{bytes}
+use Rattle.ascii.proofs.TestLaws.{left-of, right-of}
 use Rattle.tokens.specs.Kinds.{isPlain}
 use Rattle.tokens.specs.Quote.{has, allPlain, quoteFor, inQuotes, quoteOf}
-
-pub and-true : (t u : Bool) → (t && u) ≡ true → (t ≡ true) × (u ≡ true)
-and-true true u e = (refl, e)
-and-true false u e = absurd (false≢true e)
 
 -- ---- a byte that is looked for
 module _ (b : ℕ) (s : List ℕ) (i : ℕ) where
@@ -59,7 +56,7 @@ module _ (s : List ℕ) (i : ℕ) where
 pub plain-append : (s t : List ℕ) → allPlain s ≡ true → allPlain t ≡ true → allPlain (s ++ t) ≡ true
 unfolding allPlain
 plain-append [] t e f = f
-plain-append (b ∷ s) t e f = let p = and-true (isPlain b) (allPlain s) e in rw (p .0) (plain-append s t (p .1) f)
+plain-append (b ∷ s) t e f = rw (left-of (isPlain b) (allPlain s) e) (plain-append s t (right-of (isPlain b) (allPlain s) e) f)
 
 -- ---- the three ways
 pub quote-empty : (name : List ℕ) → length name ≡ 0 → quoteOf name ≡ bytes "?"
@@ -76,3 +73,6 @@ pub quote-quoted : (name : List ℕ) → (length name ≡ 0 → ⊥) → allPlai
 unfolding quoteOf
 quote-quoted [] n e = absurd (n refl)
 quote-quoted (b ∷ s) n e = rw e
+
+pub quoted-length : (q : ℕ) (name : List ℕ) → length name + 2 ≡ length (inQuotes q name)
+quoted-length q name = simp length-append (omega arith)

@@ -17,7 +17,7 @@ use Rattle.tokens.specs.declared.tokenize.Act.the-variants.{Add, End, Tu
 use Rattle.tokens.specs.Split.{joined, placesFrom}
 use Rattle.tokens.specs.Splitting.{firstSplit, splitEnded, placesEnded, actIn, passed, splitBy, cellBy, placesBy, Ordered, Copying}
 use Rattle.tokens.specs.Tokens.{actOf, byAct, ended, scan, tokensFrom}
-use Rattle.tokens.proofs.PutLaws.{store-more}
+use Rattle.ascii.proofs.OutputLaws.{store-more}
 use Rattle.tokens.proofs.WalkLaws.{at-byte, at-end}
 
 -- ---- one token more

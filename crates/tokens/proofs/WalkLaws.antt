@@ -15,7 +15,7 @@ use Rattle.tokens.specs.declared.tokenize.Act.the-variants.{Add, End, Tu
 use Rattle.tokens.specs.declared.tokenize.Walk.{Walk}
 use Rattle.tokens.specs.Tokens.{actOf, byAct, ended, scan, tokensFrom}
 use Rattle.tokens.specs.Walk.{Going, Over, Stands, Stepped, oneIf}
-use Rattle.tokens.proofs.PutLaws.{store-more}
+use Rattle.ascii.proofs.OutputLaws.{store-more}
 
 -- the walks that a step ends in
 abbrev pub goingAt : ℕ → ℕ → ℕ → ℕ → Walk

@@ -1,6 +1,7 @@
 pub mod Items
 pub mod Kinds
 pub mod Line
+pub mod Longest
 pub mod Quote
 pub mod Split
 pub mod Splitting

@@ -1,6 +1,7 @@
 // A name written so that it is read as one token: bare, or in quotes.
 use crate::kinds::is_plain;
 use ascii::Placed;
+use ascii::put_text;
 ghost use mathlib.Core.Path.{_≡_};
 ghost use Prim.Native.Nat.{_+_, _≤_};
 ghost use lib.ListN.{length};
@@ -45,37 +46,15 @@ fn quote_for(name: &[u8]) -> u8
     b'"'
 }
 
-fn put_text(text: &[u8], out: &mut [u8], at: usize) -> usize
-    requires { ⌜ at + length (now text) ≤ length (now out) ⌝ }
-    ensures { λ r. ⌜ Stored (now (out .entry)) at (now (text .entry)) (now (out .exit)) r ⌝ }
-{
-    let mut i = 0;
-    while i < text.len() {
-        out[at + i] = text[i];
-        i += 1;
-    }
-    at + i
-}
-
 fn put_in_quotes(name: &[u8], q: u8, out: &mut [u8], at: usize) -> usize
     requires { ⌜ at + (length (now name) + 2) ≤ length (now out) ⌝ }
     ensures { λ r. ⌜ Stored (now (out .entry)) at (inQuotes q (now (name .entry))) (now (out .exit)) r ⌝ }
 {
     out[at] = q;
-    let end = put_text(name, out, at + 1);
+    put_text(name, out, at + 1);
+    let end = at + 1 + name.len();
     out[end] = q;
     end + 1
-}
-
-// The text as it is, where it fits.
-fn put_bare(text: &[u8], out: &mut [u8], at: usize) -> Placed
-    ensures { λ r. ⌜ (r ≡ placedOf (now (out .entry)) at (now (text .entry))) × (now (out .exit) ≡ bufferAfter (now (out .entry)) at (now (text .entry))) ⌝ }
-{
-    let n = text.len();
-    if !ascii::fits_at(out.len(), at, n) {
-        return Placed::NoRoom(n);
-    }
-    Placed::Next(put_text(text, out, at))
 }
 
 // The name between two quotes, where they fit.
@@ -94,10 +73,10 @@ pub fn quote_string(name: &[u8], out: &mut [u8], at: usize) -> Placed
     ensures { λ r. ⌜ (r ≡ placedOf (now (out .entry)) at (quoteOf (now (name .entry)))) × (now (out .exit) ≡ bufferAfter (now (out .entry)) at (quoteOf (now (name .entry)))) ⌝ }
 {
     if name.len() == 0 {
-        return put_bare(b"?", out, at);
+        return put_text(b"?", out, at);
     }
     if all_plain(name) {
-        return put_bare(name, out, at);
+        return put_text(name, out, at);
     }
     put_quoted(name, quote_for(name), out, at)
 }

@@ -2,13 +2,13 @@
 -- has some, since they are the runs of the atoms. So one walk tells of each residue whether it has one atom, as the definition counts them.
 use Prim.{tt}
 use mathlib.Core.Path.{_≡_, refl, sym, ap, _∙_, subst}
-use mathlib.Core.Bool.{Bool, true, false, _&&_, _||_, cond, or-true, false≢true}
+use mathlib.Core.Bool.{Bool, true, false, _&&_, _||_, cond, or-true}
 use mathlib.Core.List.{List, [], _∷_, map}
 use Prim.Native.Nat.{ℕ, _+_, _≤_, _<_}
 use native.Mathlib.Omega.{arith}
 use lib.Dec.{eqb}
 use lib.ListN.{drop}
-use borrow.Author.Tests.{le-ltb, eqb-true, eq-eqb}
+use borrow.Author.Tests.{le-ltb, eq-eqb}
 use Rattle.names.specs.Places.{ascends}
 use Rattle.model.specs.declared.classes.Class.{Class}
 use Rattle.model.specs.Lists.{any, All}
@@ -17,7 +17,8 @@ use Rattle.model.specs.Walks.{lessers, aloneIn}
 use Rattle.ascii.specs.Lists.{every}
 use Rattle.model.specs.WellFormed.{sameList, runsAfter, runsOf, classWell}
 use Rattle.model.proofs.AscendingLaws.{ascends-all}
-use Rattle.model.proofs.ListLaws.{left-of, right-of, all-map, any-map}
+use Rattle.model.proofs.ListLaws.{all-map, any-map}
+use Rattle.model.proofs.RunsLaws.{list-same}
 use Rattle.model.proofs.WalkLaws.{Rising, lessers-onward, lone-is}
 use Rattle.wellformed.specs.Walks.{isClassed, classedFrom}
 
@@ -40,17 +41,10 @@ runs-among x (y ∷ l) = go (eqb x y) (runs-among x l) (runs-among y l)
     go true m n = all-map (Among l) (Among (y ∷ l)) (further y l) (runsAfter x l) m
     go false m n = (first-among y l, all-map (Among l) (Among (y ∷ l)) (further y l) (runsAfter y l) n)
 
-same-is : (l m : List ℕ) → sameList l m ≡ true → l ≡ m
-same-is [] [] e = refl
-same-is [] (y ∷ m) e = absurd (false≢true e)
-same-is (x ∷ l) [] e = absurd (false≢true e)
-same-is (x ∷ l) (y ∷ m) e =
-    ap (λ (z : ℕ). z ∷ l) (eqb-true x y (left-of (eqb x y) (sameList l m) e)) ∙ ap (λ (r : List ℕ). y ∷ r) (same-is l m (right-of (eqb x y) (sameList l m) e))
-
 in-runs : (l ks : List ℕ) → sameList (runsOf l) ks ≡ true → All (Among l) ks
-in-runs [] ks e = subst (All (Among [])) (same-is [] ks e) tt
+in-runs [] ks e = subst (All (Among [])) (list-same [] ks e) tt
 in-runs (x ∷ l) ks e =
-    subst (All (Among (x ∷ l))) (same-is (x ∷ runsAfter x l) ks e)
+    subst (All (Among (x ∷ l))) (list-same (x ∷ runsAfter x l) ks e)
     (first-among x l, all-map (Among l) (Among (x ∷ l)) (further x l) (runsAfter x l) (runs-among x l))
 
 -- ---- the walk

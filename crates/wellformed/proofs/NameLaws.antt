@@ -1,16 +1,15 @@
 -- The bytes of a packed name are its first one, and those of what is left without it; so a test of each is a test of the first, and one of the rest.
-use mathlib.Core.Path.{_≡_, refl, sym, ap, _∙_}
+use mathlib.Core.Path.{_≡_, refl, sym, ap, _∙_, subst}
 use mathlib.Core.Bool.{Bool, true, false, _&&_, _||_, and-false, false≢true}
-use mathlib.Core.List.{List, _∷_}
-use Prim.Native.Nat.{ℕ, _*_, _/_, _%_, _^_, _≤_, _<_, compare, Ordering, Ordering·lt, Ordering·eq, Ordering·gt}
+use Prim.Native.Nat.{ℕ, _/_, _^_, _≤_, _<_, compare, Ordering, Ordering·lt, Ordering·eq, Ordering·gt}
 use native.Mathlib.Omega.{arith}
 use lib.Dec.{eqb, leb, ltb}
 use lib.ListN.{drop}
 use borrow.Author.Tests.{lt-ltb, leb-true, eqb-true}
 use Rattle.numbers.proofs.Comparing.{Compared, compared}
 use Rattle.names.specs.Packing.{unpacked}
-use Rattle.names.proofs.PackingTurns.{unpacked-none, unpacked-some, unpacked-after}
-use Rattle.ascii.specs.Bytes.{isTextByte}
+use Rattle.names.proofs.PackingTurns.{unpacked-none, unpacked-first, first-in-front}
+use Rattle.ascii.specs.Bytes.{first, isTextByte}
 use Rattle.ascii.specs.Lists.{every}
 use Rattle.model.specs.WellFormed.{isName}
 use Rattle.model.proofs.ListLaws.{left-of, right-of}
@@ -18,20 +17,21 @@ use Rattle.model.proofs.ListLaws.{left-of, right-of}
 abbrev pub textBytes : ℕ → Bool
 textBytes name = every isTextByte (unpacked name)
 
--- the name without its first byte
-abbrev pub withoutFirst : ℕ → ℕ
-withoutFirst name = name % 256 ^ 7 * 256
+module _ (name : ℕ) (some : name ≡ 0 → ⊥) where
+  abbrev others : Bool
+  others = every isTextByte (drop 1 (unpacked name))
+
+  turn : textBytes name ≡ (isTextByte (first (unpacked name)) && others)
+  turn = ap (every isTextByte) (first-in-front name some)
+
+  -- where the rest is the name without its first byte
+  pub bytes-on : (rest : ℕ) → unpacked rest ≡ drop 1 (unpacked name) → isTextByte (first (unpacked name)) ≡ true → textBytes name ≡ textBytes rest
+  bytes-on rest left e = turn ∙ ap (λ (t : Bool). t && others) e ∙ sym (ap (every isTextByte) left)
+
+  pub bytes-fail : isTextByte (first (unpacked name)) ≡ false → textBytes name ≡ false
+  bytes-fail e = turn ∙ ap (λ (t : Bool). t && others) e
 
 module _ (name : ℕ) where
-  turn : (name ≡ 0 → ⊥) → unpacked name ≡ name / 256 ^ 7 ∷ unpacked (withoutFirst name)
-  turn h = unpacked-some 7 name h ∙ ap (λ (l : List ℕ). name / 256 ^ 7 ∷ l) (sym (unpacked-after name ∙ ap (drop 1) (unpacked-some 7 name h)))
-
-  pub bytes-on : (name ≡ 0 → ⊥) → isTextByte (name / 256 ^ 7) ≡ true → textBytes name ≡ textBytes (withoutFirst name)
-  bytes-on h e = ap (every isTextByte) (turn h) ∙ ap (λ (t : Bool). t && textBytes (withoutFirst name)) e
-
-  pub bytes-fail : (name ≡ 0 → ⊥) → isTextByte (name / 256 ^ 7) ≡ false → textBytes name ≡ false
-  bytes-fail h e = ap (every isTextByte) (turn h) ∙ ap (λ (t : Bool). t && textBytes (withoutFirst name)) e
-
   pub bytes-end : name ≡ 0 → textBytes name ≡ true
   bytes-end e = ap (λ (n : ℕ). textBytes n) e ∙ ap (every isTextByte) (unpacked-none 8)
 
@@ -58,7 +58,9 @@ unfolding isName
 name-below name e = go (compare 0 name) (compared 0 name)
   where
     top : (name ≡ 0 → ⊥) → textBytes name ≡ true → name / 256 ^ 7 ≤ 126
-    top h t = text-byte (name / 256 ^ 7) (left-of (isTextByte (name / 256 ^ 7)) (textBytes (withoutFirst name)) (sym (ap (every isTextByte) (turn name h)) ∙ t))
+    top h t =
+        let b = first (unpacked name) in
+        subst (λ (x : ℕ). x ≤ 126) (unpacked-first 7 name) (text-byte b (left-of (isTextByte b) (others name h) (sym (turn name h) ∙ t)))
 
     go : (o : Ordering) → Compared o 0 name → name < 2 ^ 64
     go Ordering·lt l = let h = top (λ z. omega arith) (right-of (ltb 0 name) (textBytes name) e) in omega arith

@@ -1,13 +1,13 @@
 // The fields of one record: names, insertion codes, coordinates.
+use model::code_part;
+use names::after_first;
+use names::first_byte;
 use numbers::is_printable;
 ghost use mathlib.Core.Path.{_≡_};
 ghost use Rattle.model.specs.Keys.{codePart};
 ghost use Rattle.model.specs.Lent.{pointOf};
 ghost use Rattle.ascii.specs.Bytes.{isTextByte};
 ghost use Rattle.model.specs.WellFormed.{isName, isCode, isNear};
-
-// What the highest of a name's 8 bytes counts.
-const TOP: u64 = 0x0100_0000_0000_0000;
 
 // 9 or 32 to 126.
 fn is_text_byte(b: u8) -> bool
@@ -28,10 +28,10 @@ pub(crate) fn is_name(name: u64) -> bool
     }
     let mut rest = name;
     while rest != 0 {
-        if !is_text_byte((rest / TOP) as u8) {
+        if !is_text_byte(first_byte(rest)) {
             return false;
         }
-        rest = rest % TOP * 256;
+        rest = after_first(rest);
     }
     true
 }
@@ -40,7 +40,7 @@ pub(crate) fn is_name(name: u64) -> bool
 pub(crate) fn has_code(key: u64) -> bool
     ensures { λ r. ⌜ r ≡ isCode (codePart key) ⌝ }
 {
-    let code = (key % 256) as u8;
+    let code = code_part(key);
     if code == 0 {
         return true;
     }

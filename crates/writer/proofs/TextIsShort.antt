@@ -39,7 +39,7 @@ module _ (a b : List ℕ) where
   either-short true p q = p
   either-short false p q = q
 
-decimal-fits : (n : ℕ) → length (decimalOf n) ≤ 20
+pub decimal-fits : (n : ℕ) → length (decimalOf n) ≤ 20
 decimal-fits n = omega (arith, digits-length (digitCount n) n, digit-count-fits n)
 
 decimal-short : (n : ℕ) → Short (decimalOf n)

@@ -8,7 +8,9 @@ use model::Atom;
 use model::Room;
 use model::atom_at;
 use model::chain_part;
+use model::code_part;
 use model::is_polymer;
+use model::sequence_part;
 use texts::AtomRow;
 use texts::put_atom_row;
 use texts::put_word;
@@ -39,9 +41,9 @@ fn atom_row(chains: &[u64], chain_count: usize, id: u64, atom: Atom, walk: Walk)
         chain: chain_name(chains, chain_count, key),
         entity: chain_part(key) + 1,
         number: walk.number,
-        insertion_code: (key % 256) as u8,
+        insertion_code: code_part(key),
         position,
-        sequence: (key % 1099511627776 / 256) as u32,
+        sequence: sequence_part(key),
     }
 }
 

@@ -6,6 +6,9 @@ use crate::walking::walk_to;
 use model::Atom;
 use model::Room;
 use model::atom_at;
+use model::code_part;
+use names::after_first;
+use names::first_byte;
 ghost use mathlib.Core.Path.{_≡_};
 ghost use mathlib.Core.Bool.{true};
 ghost use Prim.Native.Nat.{_≤_};
@@ -17,19 +20,16 @@ ghost use Rattle.model.specs.WellFormed.{wellFormedIn};
 ghost use Rattle.writer.specs.Unwritable.{holdsBothQuotes, isUnwritableCode, unwritableIn};
 ghost use Rattle.writer.specs.Walking.{unwritableBy};
 
-// What the highest of a name's 8 bytes counts.
-const TOP: u64 = 0x0100_0000_0000_0000;
-
 // Whether a byte stands in a name: each turn passes the first byte of what is left.
 fn holds(name: u64, b: u8) -> bool
     ensures { λ r. ⌜ r ≡ has b (unpacked name) ⌝ }
 {
     let mut rest = name;
     while rest != 0 {
-        if (rest / TOP) as u8 == b {
+        if first_byte(rest) == b {
             return true;
         }
-        rest = rest % TOP * 256;
+        rest = after_first(rest);
     }
     false
 }
@@ -68,7 +68,7 @@ fn is_unwritable(chains: &[u64], chain_count: usize, atom: Atom, walk: Walk) -> 
     if holds_both_quotes(chain_name(chains, chain_count, atom.key)) {
         return true;
     }
-    is_unwritable_code((atom.key % 256) as u8)
+    is_unwritable_code(code_part(atom.key))
 }
 
 // The id of the first atom that no text can hold; 0 where there is none.

@@ -11,8 +11,11 @@ sizes-of-requires c κs = search needs
 returns : tie.Need-returns
 returns c = let a = c .before .before .args in c .sizes-of .ensures ∙ all-kept (a .unknown) (a .counts) (c .before .if1 .taken)
 
+no-records-requires : tie.Need-no-records-requires
+no-records-requires c κs = search needs
+
 returns-2 : tie.Need-returns-2
-returns-2 c = let a = c .before .args in none-kept (a .unknown) (a .counts) (c .if1 .left)
+returns-2 c = let a = c .before .before .args in c .no-records .ensures ∙ none-kept (a .unknown) (a .counts) (c .before .if1 .left)
 
 pub kept-by-spec : {M : Type 1} → statement M
-kept-by-spec = tie.close (tie.spec sizes-of-requires returns returns-2)
+kept-by-spec = tie.close (tie.spec sizes-of-requires returns no-records-requires returns-2)

@@ -14,14 +14,14 @@ u64-at-requires c κs = search needs
 chain-part-requires : tie.Need-chain-part-requires
 chain-part-requires c κs = search needs
 
-cast-signed : tie.Need-cast-signed
-cast-signed c = search needs
+sequence-part-requires : tie.Need-sequence-part-requires
+sequence-part-requires c κs = search needs
 
 signed-requires : tie.Need-signed-requires
 signed-requires c κs = search needs
 
-cast-t14 : tie.Need-cast-t14
-cast-t14 c = search needs
+code-part-requires : tie.Need-code-part-requires
+code-part-requires c κs = search needs
 
 u64-at-requires-2 : tie.Need-u64-at-requires-2
 u64-at-requires-2 c κs = search needs
@@ -39,13 +39,16 @@ returns : tie.Need-returns
 unfolding residueOut
 returns c =
     let p = c .before .before .before in
-    let key = p .before .before .before .u64-at .ensures in
-    let chain = p .before .before .chain-part .ensures ∙ ap chainPart key in
-    let sequence = toZ-ofZ w32 _ (record { sfits = p .before .signed .ok }) ∙ p .before .signed .ensures ∙ ap (λ k. signed (sequencePart k)) key in
+    let said = p .before .before in
+    let key = said .before .before .before .u64-at .ensures in
+    let chain = said .before .before .chain-part .ensures ∙ ap chainPart key in
+    let moved = said .before .sequence-part .ensures ∙ ap sequencePart key in
+    let sequence = toZ-ofZ w32 _ (record { sfits = said .signed .ok }) ∙ said .signed .ensures ∙ ap signed moved in
+    let code = p .before .code-part .ensures ∙ ap codePart key in
     λ i. record {
       chain = chain i;
       sequence = sequence i;
-      «insertion_code» = codePart (key i);
+      «insertion_code» = code i;
       name = p .u64-at2 .ensures i;
       code = c .before .before .byte-at .ensures i;
       category = c .before .byte-at2 .ensures i;
@@ -58,9 +61,9 @@ residue-at-spec =
     (tie.spec
     u64-at-requires
     chain-part-requires
-    cast-signed
+    sequence-part-requires
     signed-requires
-    cast-t14
+    code-part-requires
     u64-at-requires-2
     byte-at-requires
     byte-at-requires-2

@@ -2,6 +2,7 @@
 use mathlib.Core.Path.{sym, ap, _∙_}
 use lib.Seq.{take-all}
 use borrow.Author.Needs.{needs}
+use Rattle.tokens.specs.Longest.{longest}
 use Rattle.rows.specs.Fields.{fieldsOf}
 use Rattle.rows.proofs.fields.fields_of.Statement.{statement}
 use Rattle.rows.proofs.fields.fields_of.Tie as tie
@@ -18,7 +19,7 @@ fields-by-requires c κs = search needs
 returns : tie.Need-returns
 returns c =
     let a = c .before .before .before .before .before .before .before .args in
-    c .before .before .fields-by .ensures ∙ ap (fieldsOf (a .columns)) (sym (take-all 2048 (a .line .now) (c .before .before .before .before .before .if1 .taken)))
+    c .before .before .fields-by .ensures ∙ ap (fieldsOf (a .columns)) (sym (take-all longest (a .line .now) (c .before .before .before .before .before .if1 .taken)))
 
 sub-fields-by : tie.Need-sub-fields-by
 sub-fields-by c = search needs

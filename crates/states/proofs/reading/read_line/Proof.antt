@@ -2,6 +2,7 @@
 use mathlib.Core.Path.{sym, ap, _∙_}
 use lib.Seq.{take-all}
 use borrow.Author.Needs.{needs}
+use Rattle.tokens.specs.Longest.{longest}
 use Rattle.states.specs.States.{movedBy}
 use Rattle.states.proofs.reading.read_line.Statement.{statement}
 use Rattle.states.proofs.reading.read_line.Tie as tie
@@ -15,7 +16,7 @@ read-within-requires c κs = search needs
 returns : tie.Need-returns
 returns c =
     let a = c .before .before .before .before .before .args in
-    c .before .read-within .ensures ∙ ap (movedBy (a .heads)) (sym (take-all 2048 (a .line .now) (c .before .before .before .if1 .taken)))
+    c .before .read-within .ensures ∙ ap (movedBy (a .heads)) (sym (take-all longest (a .line .now) (c .before .before .before .if1 .taken)))
 
 sub-read-within : tie.Need-sub-read-within
 sub-read-within c = search needs

@@ -1,6 +1,7 @@
 -- Each arm is one case of `actBy`; a line of at most 2,048 bytes is its first 2,048 bytes.
 use mathlib.Core.Path.{sym, ap, _∙_}
 use lib.Seq.{take-all}
+use Rattle.tokens.specs.Longest.{longest}
 use Rattle.rows.specs.Fields.{fieldsOf}
 use Rattle.rows.specs.Rules.{rowOf}
 use Rattle.taking.specs.Lines.{actOf, actBy}
@@ -33,7 +34,7 @@ returns-2 : tie.Need-returns-2
 returns-2 c =
     let s = c .before .before .before .before .before .before in
     let a = s .args in
-    let fields = c .before .before .fields-of .ensures ∙ ap (fieldsOf (a .columns)) (take-all 2048 (a .line .now) (s .pre)) in
+    let fields = c .before .before .fields-of .ensures ∙ ap (fieldsOf (a .columns)) (take-all longest (a .line .now) (s .pre)) in
     c .act-of .ensures
     ∙ ap (actOf (a .number)) (c .before .row-of .ensures ∙ ap rowOf fields)
     ∙ sym (ap (actBy (a .number) (a .line .now) (a .columns)) (c .before .before .before .enum-told2 .given .1))

@@ -1,6 +1,7 @@
 -- A line too long is refused, and else what the states say decides.
 use mathlib.Core.Path.{sym, ap, _∙_}
 use lib.Seq.{take-all}
+use Rattle.tokens.specs.Longest.{longest}
 use Rattle.states.specs.States.{movedBy}
 use Rattle.taking.specs.Lines.{planBy}
 use Rattle.taking.proofs.PlanLaws.{plan-long, plan-within}
@@ -23,7 +24,7 @@ returns-2 c =
     let short = c .before .before .before .before .if1 .left in
     let moved = c .before .before .before .read-line in
     (λ i. record { heads = moved .result .heads; act = c .act-by .ensures i })
-    ∙ ap (planBy (a .number) (a .line .now)) (moved .ensures ∙ ap (movedBy (a .heads)) (take-all 2048 (a .line .now) short))
+    ∙ ap (planBy (a .number) (a .line .now)) (moved .ensures ∙ ap (movedBy (a .heads)) (take-all longest (a .line .now) short))
     ∙ sym (plan-within (a .number) (a .heads) (a .line .now) short)
 
 pub plan-of-spec : {M : Type 1} → statement M

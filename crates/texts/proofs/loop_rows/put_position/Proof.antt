@@ -5,7 +5,7 @@ use native.Mathlib.Omega.{arith}
 use lib.ListN.{length}
 use borrow.Author.Needs.{needs}
 use Rattle.numbers.specs.Rounding.{printable}
-use Rattle.tokens.proofs.QuoteLaws.{and-true}
+use Rattle.ascii.proofs.TestLaws.{left-of, right-of}
 use Rattle.texts.specs.Rows.{blanked}
 use Rattle.texts.proofs.EmittedLaws.{then}
 use Rattle.texts.proofs.loop_rows.put_position.Statement.{statement}
@@ -44,11 +44,13 @@ returns c near =
     let start = x .before .before .before in
     let short : length (start .args .out .now) < 2 ^ 64 = omega arith in
     let position = start .args .row .position in
-    let all-near = and-true (printable (position .x) && printable (position .y)) (printable (position .z)) near in
-    let both-near = and-true (printable (position .x)) (printable (position .y)) (all-near .0) in
-    then (x .put-coordinate .ensures (both-near .0)) (then (blank1 .put-byte .ensures)
-    (then (y .put-coordinate2 .ensures (both-near .1)) (then (blank2 .put-byte2 .ensures)
-    (then (z .put-coordinate3 .ensures (all-near .1)) (λ _. blank3 .put-byte3 .ensures))))) short
+    let near-x = printable (position .x) in
+    let near-y = printable (position .y) in
+    let near-z = printable (position .z) in
+    let two = left-of (near-x && near-y) near-z near in
+    then (x .put-coordinate .ensures (left-of near-x near-y two)) (then (blank1 .put-byte .ensures)
+    (then (y .put-coordinate2 .ensures (right-of near-x near-y two)) (then (blank2 .put-byte2 .ensures)
+    (then (z .put-coordinate3 .ensures (right-of (near-x && near-y) near-z near)) (λ _. blank3 .put-byte3 .ensures))))) short
 
 pub put-position-spec : {M : Type 1} → statement M
 put-position-spec =

@@ -8,7 +8,7 @@ use borrow.Author.Tests.{leb-true, not-true, not-false}
 use Rattle.ascii.specs.Output.{fits}
 use Rattle.ascii.proofs.OutputLaws.{put-whole, put-nothing}
 use Rattle.tokens.specs.Quote.{inQuotes}
-use Rattle.tokens.proofs.PutLaws.{quoted-length}
+use Rattle.tokens.proofs.QuoteLaws.{quoted-length}
 use Rattle.tokens.proofs.quote.put_quoted.Statement.{statement}
 use Rattle.tokens.proofs.quote.put_quoted.Tie as tie
 

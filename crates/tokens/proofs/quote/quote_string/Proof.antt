@@ -5,29 +5,29 @@ use Rattle.tokens.proofs.QuoteLaws.{quote-empty, quote-bare, quote-quot
 use Rattle.tokens.proofs.quote.quote_string.Statement.{statement}
 use Rattle.tokens.proofs.quote.quote_string.Tie as tie
 
-slice-aggregate-put-bare : tie.Need-slice-aggregate-put-bare
-slice-aggregate-put-bare c = search needs
+slice-aggregate-put-text : tie.Need-slice-aggregate-put-text
+slice-aggregate-put-text c = search needs
 
-put-bare-requires : tie.Need-put-bare-requires
-put-bare-requires c κs = search needs
+put-text-requires : tie.Need-put-text-requires
+put-text-requires c κs = search needs
 
 same-length : tie.Need-same-length
 same-length c = search needs
 
 returns : tie.Need-returns
-returns c = rw (quote-empty _ (c .before .before .before .before .before .if1 .taken)) (c .before .before .put-bare .ensures)
+returns c = rw (quote-empty _ (c .before .before .before .before .before .if1 .taken)) (c .before .before .put-text .ensures)
 
 all-plain-requires : tie.Need-all-plain-requires
 all-plain-requires c κs = search needs
 
-put-bare-requires-2 : tie.Need-put-bare-requires-2
-put-bare-requires-2 c κs = search needs
+put-text-requires-2 : tie.Need-put-text-requires-2
+put-text-requires-2 c κs = search needs
 
 same-length-2 : tie.Need-same-length-2
 same-length-2 c = search needs
 
 returns-2 : tie.Need-returns-2
-returns-2 c = rw (quote-bare _ (c .before .before .before .before .before .before .if1 .left) (sym (c .before .before .before .before .before .all-plain .ensures) ∙ c .before .before .before .before .if2 .taken)) (c .before .before .put-bare2 .ensures)
+returns-2 c = rw (quote-bare _ (c .before .before .before .before .before .before .if1 .left) (sym (c .before .before .before .before .before .all-plain .ensures) ∙ c .before .before .before .before .if2 .taken)) (c .before .before .put-text2 .ensures)
 
 quote-for-requires : tie.Need-quote-for-requires
 quote-for-requires c κs = search needs
@@ -45,12 +45,12 @@ pub quote-string-spec : {M : Type 1} → statement M
 quote-string-spec =
     tie.close
     (tie.spec
-    slice-aggregate-put-bare
-    put-bare-requires
+    slice-aggregate-put-text
+    put-text-requires
     same-length
     returns
     all-plain-requires
-    put-bare-requires-2
+    put-text-requires-2
     same-length-2
     returns-2
     quote-for-requires

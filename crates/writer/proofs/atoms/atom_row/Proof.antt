@@ -1,8 +1,7 @@
--- Each field is what the call before it answered, or a part of the key.
+-- Each field is what the call for it answered.
 use mathlib.Core.Path.{ap, _∙_}
 use native.Mathlib.Numerals.{add-one}
 use Prim.Native.Nat.{suc}
-use Rattle.model.specs.Keys.{sequencePart, codePart}
 use borrow.Author.Needs.{needs}
 use Rattle.writer.proofs.atoms.atom_row.Statement.{statement}
 use Rattle.writer.proofs.atoms.atom_row.Tie as tie
@@ -19,28 +18,29 @@ chain-part-requires c κs = search needs
 add-t12 : tie.Need-add-t12
 add-t12 c = search needs
 
-cast-t14 : tie.Need-cast-t14
-cast-t14 c = search needs
+code-part-requires : tie.Need-code-part-requires
+code-part-requires c κs = search needs
 
-cast-t17 : tie.Need-cast-t17
-cast-t17 c = search needs
+sequence-part-requires : tie.Need-sequence-part-requires
+sequence-part-requires c κs = search needs
 
 returns : tie.Need-returns
 returns c =
-    let a = c .before .before .before .before .before .before .args in
-    let entity = add-one (c .chain-part .result) ∙ ap suc (c .chain-part .ensures) in
+    let p = c .before .before in
+    let a = p .before .before .before .before .before .before .args in
+    let entity = add-one (p .chain-part .result) ∙ ap suc (p .chain-part .ensures) in
     λ i. record {
-      polymer = c .before .before .is-polymer .ensures i;
+      polymer = p .before .before .is-polymer .ensures i;
       id = a .id;
       element = a .atom .element;
       atom = a .atom .name;
       residue = a .walk .residue .name;
-      chain = c .before .chain-name .ensures i;
+      chain = p .before .chain-name .ensures i;
       entity = entity i;
       number = a .walk .number;
-      «insertion_code» = codePart (a .atom .key);
+      «insertion_code» = c .before .code-part .ensures i;
       position = a .atom .position;
-      sequence = sequencePart (a .atom .key);
+      sequence = c .sequence-part .ensures i;
     }
 
 pub atom-row-spec : {M : Type 1} → statement M
@@ -51,6 +51,6 @@ atom-row-spec =
     chain-name-requires
     chain-part-requires
     add-t12
-    cast-t14
-    cast-t17
+    code-part-requires
+    sequence-part-requires
     returns)

@@ -1,6 +1,6 @@
 -- The tests are the definition's, one after the other.
 use mathlib.Core.Path.{sym, ap, _∙_}
-use Rattle.writer.specs.Unwritable.{holdsBothQuotes}
+use Rattle.writer.specs.Unwritable.{holdsBothQuotes, isUnwritableCode}
 use borrow.Author.Needs.{needs}
 use Rattle.writer.proofs.unwritable.is_unwritable.Statement.{statement}
 use Rattle.writer.proofs.unwritable.is_unwritable.Tie as tie
@@ -34,8 +34,8 @@ returns-3 c =
     let f = sym (c .before .holds-both-quotes3 .ensures ∙ ap holdsBothQuotes (c .before .before .chain-name .ensures)) ∙ c .if3 .taken in
     sym (rw (d, e, f))
 
-cast-is-unwritable-code : tie.Need-cast-is-unwritable-code
-cast-is-unwritable-code c = search needs
+code-part-requires : tie.Need-code-part-requires
+code-part-requires c κs = search needs
 
 is-unwritable-code-requires : tie.Need-is-unwritable-code-requires
 is-unwritable-code-requires c κs = search needs
@@ -47,7 +47,7 @@ returns-4 c =
     let d = sym (p .before .before .before .before .holds-both-quotes .ensures) ∙ p .before .before .before .if1 .left in
     let e = sym (p .before .holds-both-quotes2 .ensures) ∙ p .if2 .left in
     let f = sym (q .before .holds-both-quotes3 .ensures ∙ ap holdsBothQuotes (q .before .before .chain-name .ensures)) ∙ q .if3 .left in
-    c .is-unwritable-code .ensures ∙ sym (rw (d, e, f))
+    c .is-unwritable-code .ensures ∙ ap isUnwritableCode (c .before .code-part .ensures) ∙ sym (rw (d, e, f))
 
 pub is-unwritable-spec : {M : Type 1} → statement M
 is-unwritable-spec =
@@ -60,6 +60,6 @@ is-unwritable-spec =
     chain-name-requires
     holds-both-quotes-requires-3
     returns-3
-    cast-is-unwritable-code
+    code-part-requires
     is-unwritable-code-requires
     returns-4)

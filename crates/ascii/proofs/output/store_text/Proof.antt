@@ -5,9 +5,9 @@ use native.Mathlib.Omega.{arith}
 use lib.ListN.{length, take}
 use lib.Seq.{sets, length-sets}
 use borrow.Author.Needs.{needs}
-use Rattle.tokens.proofs.PutLaws.{copy-more, copy-end}
-use Rattle.tokens.proofs.quote.put_text.Statement.{statement}
-use Rattle.tokens.proofs.quote.put_text.Tie as tie
+use Rattle.ascii.proofs.OutputLaws.{copy-more, copy-end}
+use Rattle.ascii.proofs.output.store_text.Statement.{statement}
+use Rattle.ascii.proofs.output.store_text.Tie as tie
 
 abbrev Inv-loop : tie.InvT-loop
 Inv-loop text out₀ at i₀ out i = (i ≤ length text) × (out ≡ sets out₀ at (take i text))
@@ -51,8 +51,8 @@ returns c =
     let l = c .before .loop in
     record { bytes = l .inv .1 ∙ copy-end (a .out .now) (a .at) (a .text .now) (l .i) (c .loop-test .left); place = omega arith }
 
-pub put-text-spec : {M : Type 1} → statement M
-put-text-spec =
+pub store-text-spec : {M : Type 1} → statement M
+store-text-spec =
     tie.close
     (tie.spec
     Inv-loop
