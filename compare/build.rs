@@ -4,7 +4,7 @@ use std::env;
 use std::path::{Path, PathBuf};
 
 /// The crates whose exported functions are called.
-const ARCHIVES: [&str; 3] = ["probe", "structures", "service"];
+const ARCHIVES: [&str; 3] = ["probe_fields", "probe_structures", "structure_intake"];
 
 fn main() {
     println!("cargo::rerun-if-env-changed=PROVED_LIB");

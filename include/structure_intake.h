@@ -1,5 +1,5 @@
 /* The structure intake through C conventions: mmCIF text in; the same structure as text, its counts and, where records
- * are lent, its chains, residues and atoms out, or a refusal by number, line and detail. Link libservice.a.
+ * are lent, its chains, residues and atoms out, or a refusal by number, line and detail. Link libstructure_intake.a.
  *
  * The caller owns every buffer. Each pointer leads to as many entries as the length beside it says, is aligned for them
  * and is not null, also where the length is 0; no two buffers overlap. The text is only read. Nothing else is read or

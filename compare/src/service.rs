@@ -1,4 +1,4 @@
-//! The two exported calls of `libservice.a`, through C conventions: a slice is a pointer and a
+//! The two exported calls of `libstructure_intake.a`, through C conventions: a slice is a pointer and a
 //! length. `include/structure_intake.h` has their promises.
 use crate::records::{Chain, Records};
 

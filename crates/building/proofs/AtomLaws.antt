@@ -9,14 +9,14 @@ use lib.Ieee.{Float, lt, nan}
 use lib.ListN.{length, take, getD, set, length-map, length-set, List·getD-map}
 use lib.Seq.{map-set-same}
 use Rattle.rows.specs.declared.rules.Site.{Site}
-use Rattle.records.specs.declared.places.Place.{Place}
-use Rattle.records.specs.declared.places.Place.the-variants.{At, Before}
-use Rattle.gaps.specs.declared.spots.Spot.{Spot}
-use Rattle.gaps.specs.Gaps.{withNew}
-use Rattle.records.specs.Places.{placeIn}
-use Rattle.gaps.specs.Spots.{spotOf}
-use Rattle.records.proofs.InsertionLaws.{length-ins}
-use Rattle.records.proofs.PlaceLaws.{getD-any}
+use Rattle.field_slices.specs.declared.places.Place.{Place}
+use Rattle.field_slices.specs.declared.places.Place.the-variants.{At, Before}
+use Rattle.gapped_slices.specs.declared.spots.Spot.{Spot}
+use Rattle.gapped_slices.specs.Gaps.{withNew}
+use Rattle.field_slices.specs.Places.{placeIn}
+use Rattle.gapped_slices.specs.Spots.{spotOf}
+use Rattle.field_slices.proofs.InsertionLaws.{length-ins}
+use Rattle.field_slices.proofs.PlaceLaws.{getD-any}
 use Rattle.model.specs.Fold.{Atom, atomOf, greater}
 use Rattle.model.specs.Map.{Entry, Map, put, Ascending}
 use Rattle.model.proofs.MapLaws.{ascending-put}

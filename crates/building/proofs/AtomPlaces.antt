@@ -8,8 +8,8 @@ use native.Mathlib.Omega.{arith}
 use lib.Dec.{ltb}
 use borrow.Author.Tests.{lt-ltb, le-ltb, ltb-true}
 use Rattle.numbers.proofs.Comparing.{Compared, compared}
-use Rattle.records.specs.Places.{below, Ascending, placeIn}
-use Rattle.records.proofs.OrderLaws.{below-first, below-not, below-second}
+use Rattle.field_slices.specs.Places.{below, Ascending, placeIn}
+use Rattle.field_slices.proofs.OrderLaws.{below-first, below-not, below-second}
 use Rattle.model.specs.Keys.{atomPlace}
 use Rattle.model.specs.Map.{Entry, Map}
 use Rattle.model.specs.Finished.{keyPart, namePart}

@@ -6,7 +6,10 @@ use native.Mathlib.Omega.{arith}
 use lib.Dec.{ltb}
 use borrow.Author.Tests.{lt-ltb, le-ltb}
 use Rattle.model.specs.declared.room.Room.{Room}
-use Rattle.model.specs.Room.{noRoom}
+use Rattle.refusals.specs.declared.details.RecordKind.the-variants as kind
+use Rattle.model.specs.Room.{noRoom, firstLack}
+use Rattle.model.specs.declared.room.Lack.the-variants.{Nothing, Of}
+use Rattle.model.proofs.RoomLaws.{nothing-lacks}
 use Rattle.building.specs.declared.sites.Counts.{Counts}
 use Rattle.building.specs.declared.sites.Places.{Places}
 use Rattle.building.specs.Sites.{isNewChain, lackOf, oneMore}
@@ -42,30 +45,22 @@ module _ (room : Room) (c : Counts) (p : Places) where
   abbrev pub noAtom : Bool
   noAtom = noRoom (p .atom .new) (room .atoms) (c .atoms)
 
-  pub lacks-chain : noChain ≡ true → lackOf room c p ≡ 1
+  pub lacks-chain : noChain ≡ true → lackOf room c p ≡ Of kind.Chain
   unfolding lackOf
-  lacks-chain e = ap (λ (t : Bool). cond t 1 (cond noResidue 2 (cond noAtom 3 0))) e
+  lacks-chain e = ap (λ (t : Bool). firstLack t noResidue noAtom) e
 
-  pub lacks-residue : noChain ≡ false → noResidue ≡ true → lackOf room c p ≡ 2
+  pub lacks-residue : noChain ≡ false → noResidue ≡ true → lackOf room c p ≡ Of kind.Residue
   unfolding lackOf
-  lacks-residue e f = ap (λ (t : Bool). cond t 1 (cond noResidue 2 (cond noAtom 3 0))) e ∙ ap (λ (t : Bool). cond t 2 (cond noAtom 3 0)) f
+  lacks-residue e f = λ i. firstLack (e i) (f i) noAtom
 
-  pub lacks-atom : noChain ≡ false → noResidue ≡ false → noAtom ≡ true → lackOf room c p ≡ 3
+  pub lacks-atom : noChain ≡ false → noResidue ≡ false → noAtom ≡ true → lackOf room c p ≡ Of kind.Atom
   unfolding lackOf
-  lacks-atom e f g =
-      ap (λ (t : Bool). cond t 1 (cond noResidue 2 (cond noAtom 3 0))) e ∙ ap (λ (t : Bool). cond t 2 (cond noAtom 3 0)) f ∙ ap (λ (t : Bool). cond t 3 0) g
+  lacks-atom e f g = λ i. firstLack (e i) (f i) (g i)
 
-  pub lacks-none : noChain ≡ false → noResidue ≡ false → noAtom ≡ false → lackOf room c p ≡ 0
+  pub lacks-none : noChain ≡ false → noResidue ≡ false → noAtom ≡ false → lackOf room c p ≡ Nothing
   unfolding lackOf
-  lacks-none e f g =
-      ap (λ (t : Bool). cond t 1 (cond noResidue 2 (cond noAtom 3 0))) e ∙ ap (λ (t : Bool). cond t 2 (cond noAtom 3 0)) f ∙ ap (λ (t : Bool). cond t 3 0) g
+  lacks-none e f g = λ i. firstLack (e i) (f i) (g i)
 
-  pub all-have-room : lackOf room c p ≡ 0 → (noChain ≡ false) × (noResidue ≡ false) × (noAtom ≡ false)
+  pub all-have-room : lackOf room c p ≡ Nothing → (noChain ≡ false) × (noResidue ≡ false) × (noAtom ≡ false)
   unfolding lackOf
-  all-have-room = go noChain noResidue noAtom
-    where
-      go : (t u w : Bool) → _≡_ {A = ℕ} (cond t 1 (cond u 2 (cond w 3 0))) 0 → (t ≡ false) × (u ≡ false) × (w ≡ false)
-      go true u w e = absurd (omega arith)
-      go false true w e = absurd (omega arith)
-      go false false true e = absurd (omega arith)
-      go false false false e = (refl, refl, refl)
+  all-have-room = nothing-lacks noChain noResidue noAtom

@@ -7,10 +7,10 @@ use native.Mathlib.Omega.{arith}
 use lib.Ieee.{Float, lt, nan}
 use lib.ListN.{length, take, drop, getD, set, length-append, length-drop, length-set}
 use lib.Seq.{take-at}
-use Rattle.gaps.specs.declared.spots.Spot.{Spot}
-use Rattle.gaps.specs.Gaps.{closed, GapMoved, CanTake, withNew, PutIn}
-use Rattle.records.specs.Insertion.{ins}
-use Rattle.gaps.proofs.GapLaws.{length-closed, closed-set, closed-at, closed-front}
+use Rattle.gapped_slices.specs.declared.spots.Spot.{Spot}
+use Rattle.gapped_slices.specs.Gaps.{closed, GapMoved, CanTake, withNew, PutIn}
+use Rattle.field_slices.specs.Insertion.{ins}
+use Rattle.gapped_slices.proofs.GapLaws.{length-closed, closed-set, closed-at, closed-front}
 use Rattle.building.specs.Gaps.{closedUp}
 use Rattle.building.specs.Slices.{outdoes, betterIn, Betters}
 

@@ -4,7 +4,7 @@ use mathlib.Core.List.{List}
 use Prim.Native.Nat.{ℕ, _≤_}
 use native.Mathlib.Omega.{arith}
 use lib.ListN.{length, take}
-use Rattle.gaps.specs.Gaps.{GapMoved}
+use Rattle.gapped_slices.specs.Gaps.{GapMoved}
 use Rattle.model.specs.Fold.{State}
 use Rattle.model.specs.declared.room.Room.{Room}
 use Rattle.building.specs.declared.held.Held.{Held}

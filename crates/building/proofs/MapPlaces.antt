@@ -9,13 +9,13 @@ use lib.Dec.{ltb}
 use lib.ListN.{length, take, getD, set, length-map, List·getD-map}
 use lib.Seq.{set-getD}
 use borrow.Author.Tests.{lt-ltb, ltb-true}
-use Rattle.records.specs.declared.places.Place.{Place}
-use Rattle.records.specs.declared.places.Place.the-variants.{At, Before}
-use Rattle.records.specs.Insertion.{ins}
-use Rattle.records.specs.Places.{Ascending, placeIn}
-use Rattle.records.proofs.OrderLaws.{numbers}
-use Rattle.records.proofs.PlaceLaws.{Says, place-says}
-use Rattle.records.proofs.MapLaws.{map-ins, map-set}
+use Rattle.field_slices.specs.declared.places.Place.{Place}
+use Rattle.field_slices.specs.declared.places.Place.the-variants.{At, Before}
+use Rattle.field_slices.specs.Insertion.{ins}
+use Rattle.field_slices.specs.Places.{Ascending, placeIn}
+use Rattle.field_slices.proofs.OrderLaws.{numbers}
+use Rattle.field_slices.proofs.PlaceLaws.{Says, place-says}
+use Rattle.field_slices.proofs.MapLaws.{map-ins, map-set}
 use Rattle.model.specs.Map.{Entry, Map, find, put, AscendingFrom}
 use Rattle.model.proofs.PutByIndex as index
 use Rattle.building.specs.Holds.{Field}

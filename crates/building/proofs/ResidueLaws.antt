@@ -7,13 +7,13 @@ use native.Mathlib.Omega.{arith}
 use lib.Dec.{ltb}
 use lib.ListN.{take}
 use Rattle.rows.specs.declared.rules.Site.{Site}
-use Rattle.records.specs.declared.places.Place.{Place}
-use Rattle.records.specs.declared.places.Place.the-variants.{At, Before}
-use Rattle.gaps.specs.declared.spots.Spot.{Spot}
-use Rattle.gaps.specs.Gaps.{withNew}
-use Rattle.records.specs.Places.{placeIn}
-use Rattle.gaps.specs.Spots.{spotOf}
-use Rattle.records.proofs.InsertionLaws.{length-ins}
+use Rattle.field_slices.specs.declared.places.Place.{Place}
+use Rattle.field_slices.specs.declared.places.Place.the-variants.{At, Before}
+use Rattle.gapped_slices.specs.declared.spots.Spot.{Spot}
+use Rattle.gapped_slices.specs.Gaps.{withNew}
+use Rattle.field_slices.specs.Places.{placeIn}
+use Rattle.gapped_slices.specs.Spots.{spotOf}
+use Rattle.field_slices.proofs.InsertionLaws.{length-ins}
 use Rattle.model.specs.Fold.{Residue, residueOf, first}
 use Rattle.model.specs.Lists.{count}
 use Rattle.model.specs.Map.{Entry, Map, put, Ascending}

@@ -3,8 +3,8 @@ use mathlib.Core.Path.{_≡_, subst}
 use mathlib.Core.List.{List}
 use Prim.Native.Nat.{ℕ}
 use lib.Ieee.{Float}
-use Rattle.gaps.specs.declared.spots.Spot.{Spot}
-use Rattle.gaps.specs.Gaps.{GapMoved, PutIn}
+use Rattle.gapped_slices.specs.declared.spots.Spot.{Spot}
+use Rattle.gapped_slices.specs.Gaps.{GapMoved, PutIn}
 use Rattle.building.specs.Slices.{Betters}
 
 module _ {A : Type 0} where

@@ -9,14 +9,14 @@ use native.Mathlib.Omega.{arith}
 use lib.Dec.{ltb, leb}
 use lib.ListN.{length, take, length-map}
 use Rattle.rows.specs.declared.rules.Site.{Site}
-use Rattle.records.specs.declared.places.Place.{Place}
-use Rattle.records.specs.declared.places.Place.the-variants.{At, Before}
-use Rattle.gaps.specs.declared.spots.Spot.{Spot}
-use Rattle.gaps.specs.Gaps.{closed, withNew, CanTake, PutIn}
-use Rattle.records.specs.Places.{pairs, below, Ascending, placeIn}
-use Rattle.gaps.specs.Spots.{spotOf}
-use Rattle.gaps.proofs.GapLaws.{length-closed}
-use Rattle.records.proofs.PairLaws.{map-pairs}
+use Rattle.field_slices.specs.declared.places.Place.{Place}
+use Rattle.field_slices.specs.declared.places.Place.the-variants.{At, Before}
+use Rattle.gapped_slices.specs.declared.spots.Spot.{Spot}
+use Rattle.gapped_slices.specs.Gaps.{closed, withNew, CanTake, PutIn}
+use Rattle.field_slices.specs.Places.{pairs, below, Ascending, placeIn}
+use Rattle.gapped_slices.specs.Spots.{spotOf}
+use Rattle.gapped_slices.proofs.GapLaws.{length-closed}
+use Rattle.field_slices.proofs.PairLaws.{map-pairs}
 use Rattle.model.specs.Chains.{chainPlace, withChain}
 use Rattle.model.specs.Finished.{keyPart, namePart}
 use Rattle.model.specs.Fold.{Atom, State, start, first, greater, outdoneWith, step}
@@ -25,8 +25,9 @@ use Rattle.model.specs.Lent.{coordinates}
 use Rattle.model.specs.Lists.{count}
 use Rattle.model.specs.Map.{Entry, Map, find, isNone, put}
 use Rattle.model.specs.Proper.{Proper}
+use Rattle.model.specs.declared.room.Lack.the-variants.{Nothing}
 use Rattle.model.specs.declared.room.Room.{Room}
-use Rattle.model.specs.Room.{Fits, noRoom, lacking}
+use Rattle.model.specs.Room.{Fits, noRoom, firstLack, lacking}
 use Rattle.model.specs.Taken.{skipped, site}
 use Rattle.building.specs.declared.held.Held.{Held}
 use Rattle.building.specs.declared.sites.Places.{Places}
@@ -233,10 +234,10 @@ module _ (r : Records) (room : Room) (h : Held) (s : Site) (p : Places) (f : Pla
       = λ i. noRoom (residue-new i) (room .residues) (held .residues .many i) in
       let e3 : noRoom (p .atom .new) (room .atoms) (c .atoms) ≡ noRoom (isNone (find (atomAt chains s) (st .atoms))) (room .atoms) (length (st .atoms))
       = λ i. noRoom (atom-new i) (room .atoms) (held .atoms .many i) in
-      λ i. cond (e1 i) 1 (cond (e2 i) 2 (cond (e3 i) 3 0))
+      λ i. firstLack (e1 i) (e2 i) (e3 i)
 
   -- ---- what is stored
-  module _ (roomy : lackOf room (h .counts) p ≡ 0) (after : Records) (placed : Placed r h p s after) where
+  module _ (roomy : lackOf room (h .counts) p ≡ Nothing) (after : Records) (placed : Placed r h p s after) where
     rooms : (noRoom (isNewChain (h .counts) p) (room .chains) (h .counts .chains) ≡ false) × (noRoom (p .residue .new) (room .residues) residues ≡ false)
         × (noRoom (p .atom .new) (room .atoms) atoms ≡ false)
     rooms = all-have-room room (h .counts) p roomy

@@ -2,7 +2,7 @@
 use mathlib.Core.List.{List, _++_}
 use Prim.Native.Nat.{ℕ, _-_, _≤_}
 use lib.ListN.{drop}
-use Rattle.gaps.specs.Gaps.{closed}
+use Rattle.gapped_slices.specs.Gaps.{closed}
 use Rattle.model.specs.Fold.{State}
 use Rattle.model.specs.declared.room.Room.{Room}
 use Rattle.building.specs.declared.held.Held.{Held}

@@ -6,7 +6,7 @@ use lib.Ieee.{Float}
 use denote.Ref.{now}
 use denote.Triple.Both.{Both}
 use lib.ListN.{length, take}
-use Rattle.records.specs.Slice.{Slice, held}
+use Rattle.field_slices.specs.Slice.{Slice, held}
 use Rattle.model.specs.Fold.{Residue, Atom, State}
 use Rattle.model.specs.Finished.{keyPart, namePart}
 use Rattle.model.specs.Lent.{Lent, coordinates}

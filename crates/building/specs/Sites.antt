@@ -6,16 +6,18 @@ use Prim.Native.Nat.{ℕ, suc, _+_, _-_, _^_, _≤_, _<_}
 use lib.Dec.{leb, ltb}
 use lib.ListN.{length, take, set}
 use Rattle.rows.specs.declared.rules.Site.{Site}
-use Rattle.gaps.specs.Gaps.{closed, PutIn}
-use Rattle.records.specs.Places.{pairs, below}
-use Rattle.gaps.specs.Spots.{Spotted}
+use Rattle.gapped_slices.specs.Gaps.{closed, PutIn}
+use Rattle.field_slices.specs.Places.{pairs, below}
+use Rattle.gapped_slices.specs.Spots.{Spotted}
 use Rattle.model.specs.Fold.{State, step}
 use Rattle.model.specs.Keys.{residueKey}
 use Rattle.model.specs.Lent.{coordinates}
 use Rattle.model.specs.Lists.{count}
 use Rattle.model.specs.Proper.{Proper}
+use Rattle.model.specs.declared.room.Lack.{Lack}
+use Rattle.model.specs.declared.room.Lack.the-variants.{Nothing, Of}
 use Rattle.model.specs.declared.room.Room.{Room}
-use Rattle.model.specs.Room.{noRoom, lacking}
+use Rattle.model.specs.Room.{noRoom, firstLack, lacking}
 use Rattle.model.specs.Taken.{site}
 use Rattle.building.specs.declared.held.Held.{Held}
 use Rattle.building.specs.declared.sites.Counts.{Counts}
@@ -47,12 +49,10 @@ pub record PlacesFound (chains residueKeys atomKeys atomNames : List ℕ) (h : H
   pub atom : atomsBefore h + h .behind .atoms ≤ length atomKeys → atomsBefore h + h .behind .atoms ≤ length atomNames
       → Spotted below (pairs (closed (atomsBefore h) (h .behind .atoms) atomKeys) (closed (atomsBefore h) (h .behind .atoms) atomNames)) (p .key, s .atom) (p .atom)
 
--- what has no room: 1 its chain, 2 its residue, 3 its atom, 0 none of them
-unfoldable pub lackOf : Room → Counts → Places → ℕ
+-- what has no room
+unfoldable pub lackOf : Room → Counts → Places → Lack
 lackOf room c p =
-    cond (noRoom (isNewChain c p) (room .chains) (c .chains)) 1
-    (cond (noRoom (p .residue .new) (room .residues) (c .residues)) 2
-    (cond (noRoom (p .atom .new) (room .atoms) (c .atoms)) 3 0))
+    firstLack (noRoom (isNewChain c p) (room .chains) (c .chains)) (noRoom (p .residue .new) (room .residues) (c .residues)) (noRoom (p .atom .new) (room .atoms) (c .atoms))
 
 -- ---- what it leaves
 
@@ -111,8 +111,8 @@ withSkipped h =
 -- Where the site had no room nothing has changed, and of any model that the slices and counts held that is what it lacked; else no slice is longer or
 -- shorter, and it lacked none, and they hold the model with the site, if the greatest number is above its count of rows.
 abbrev pub Did : Records → Room → Held → Site → Put → Records → Type 0
-Did r room h s (NoRoom d) after = (after ≡ r) × (0 < d) × ((st : State) → HoldsApart r room h st → Proper s → lacking room st (site s) ≡ d)
+Did r room h s (NoRoom kind) after = (after ≡ r) × ((st : State) → HoldsApart r room h st → Proper s → lacking room st (site s) ≡ Of kind)
 Did r room h s (Done d) after =
     SameLengths r after
     × ((st : State) → HoldsApart r room h st → Proper s
-    → (lacking room st (site s) ≡ 0) × (suc (st .rows) < 2 ^ 64 → HoldsApart after room d (step st (site s))))
+    → (lacking room st (site s) ≡ Nothing) × (suc (st .rows) < 2 ^ 64 → HoldsApart after room d (step st (site s))))

@@ -7,8 +7,8 @@ use Prim.Native.Nat.{ℕ, suc, _+_, _-_, _≤_, _<_}
 use lib.Dec.{eqb}
 use lib.Ieee.{Float, lt, nan}
 use lib.ListN.{length, getD, set}
-use Rattle.gaps.specs.declared.spots.Spot.{Spot}
-use Rattle.gaps.specs.Gaps.{closed, withNew, CanTake}
+use Rattle.gapped_slices.specs.declared.spots.Spot.{Spot}
+use Rattle.gapped_slices.specs.Gaps.{closed, withNew, CanTake}
 use Rattle.model.specs.Chains.{chainPlace}
 use Rattle.model.specs.Lists.{any}
 

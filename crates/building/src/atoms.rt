@@ -1,12 +1,12 @@
 // The atoms in their slices, one to a field, with a gap where the next one goes.
 use crate::held::rest;
-use gaps::Spot;
+use gapped_slices::Spot;
 ghost use mathlib.Core.Path.{_≡_};
 ghost use mathlib.Core.Bool.{cond};
 ghost use Prim.Native.Nat.{_-_};
 ghost use lib.Ieee.{lt, nan};
 ghost use lib.ListN.{getD, set};
-ghost use Rattle.gaps.specs.Gaps.{GapMoved, PutIn};
+ghost use Rattle.gapped_slices.specs.Gaps.{GapMoved, PutIn};
 ghost use Rattle.building.specs.Slices.{outdoes, Betters};
 
 // Whether the entry at index i is less than v; false where there is none.
@@ -48,9 +48,9 @@ fn replace_atom(
         return;
     }
     let last = rest(spot.front, 1);
-    records::store_u8(elements, last, element);
-    records::store_point(positions, last, position);
-    records::store_f64(occupancies, last, occupancy);
+    field_slices::store_u8(elements, last, element);
+    field_slices::store_point(positions, last, position);
+    field_slices::store_f64(occupancies, last, occupancy);
 }
 
 // An atom that is there is replaced only by one with a strictly greater occupancy.
@@ -75,11 +75,11 @@ pub(crate) fn put_atom(
     ensures { λ _. ⌜ Betters front behind spot occupancy (now (occupancies .entry)) position (now (positions .entry)) (now (positions .exit)) ⌝ }
     ensures { λ _. ⌜ Betters front behind spot occupancy (now (occupancies .entry)) occupancy (now (occupancies .entry)) (now (occupancies .exit)) ⌝ }
 {
-    gaps::put_u64(keys, front, behind, spot, key);
-    gaps::put_u64(names, front, behind, spot, name);
-    gaps::put_u8(elements, front, behind, spot, element);
-    gaps::put_point(positions, front, behind, spot, position);
-    gaps::put_f64(occupancies, front, behind, spot, occupancy);
+    gapped_slices::put_u64(keys, front, behind, spot, key);
+    gapped_slices::put_u64(names, front, behind, spot, name);
+    gapped_slices::put_u8(elements, front, behind, spot, element);
+    gapped_slices::put_point(positions, front, behind, spot, position);
+    gapped_slices::put_f64(occupancies, front, behind, spot, occupancy);
     replace_atom(
         elements,
         positions,
@@ -108,9 +108,9 @@ pub(crate) fn gather_atoms(
     ensures { λ _. ⌜ GapMoved front behind many (now (positions .entry)) (now (positions .exit)) ⌝ }
     ensures { λ _. ⌜ GapMoved front behind many (now (occupancies .entry)) (now (occupancies .exit)) ⌝ }
 {
-    gaps::move_gap_u64(keys, front, behind, many);
-    gaps::move_gap_u64(names, front, behind, many);
-    gaps::move_gap_u8(elements, front, behind, many);
-    gaps::move_gap_point(positions, front, behind, many);
-    gaps::move_gap_f64(occupancies, front, behind, many);
+    gapped_slices::move_gap_u64(keys, front, behind, many);
+    gapped_slices::move_gap_u64(names, front, behind, many);
+    gapped_slices::move_gap_u8(elements, front, behind, many);
+    gapped_slices::move_gap_point(positions, front, behind, many);
+    gapped_slices::move_gap_f64(occupancies, front, behind, many);
 }

@@ -1,5 +1,5 @@
 // Where a chain stands among those that were met.
-use records::smaller;
+use field_slices::smaller;
 ghost use mathlib.Core.Path.{_≡_};
 ghost use Prim.Native.Nat.{_≤_};
 ghost use lib.ListN.{length, take};

@@ -1,6 +1,6 @@
 // The residues in their slices, one to a field, with a gap where the next one goes.
-use gaps::Spot;
-ghost use Rattle.gaps.specs.Gaps.{GapMoved, PutIn};
+use gapped_slices::Spot;
+ghost use Rattle.gapped_slices.specs.Gaps.{GapMoved, PutIn};
 
 // A residue that is there keeps what its first row said.
 pub(crate) fn put_residue(
@@ -18,9 +18,9 @@ pub(crate) fn put_residue(
     ensures { λ _. ⌜ PutIn front behind spot name (now (names .entry)) (now (names .exit)) ⌝ }
     ensures { λ _. ⌜ PutIn front behind spot mark (now (marks .entry)) (now (marks .exit)) ⌝ }
 {
-    gaps::put_u64(keys, front, behind, spot, key);
-    gaps::put_u64(names, front, behind, spot, name);
-    gaps::put_u8(marks, front, behind, spot, mark);
+    gapped_slices::put_u64(keys, front, behind, spot, key);
+    gapped_slices::put_u64(names, front, behind, spot, name);
+    gapped_slices::put_u8(marks, front, behind, spot, mark);
 }
 
 // All of them to the front.
@@ -36,7 +36,7 @@ pub(crate) fn gather_residues(
     ensures { λ _. ⌜ GapMoved front behind many (now (names .entry)) (now (names .exit)) ⌝ }
     ensures { λ _. ⌜ GapMoved front behind many (now (marks .entry)) (now (marks .exit)) ⌝ }
 {
-    gaps::move_gap_u64(keys, front, behind, many);
-    gaps::move_gap_u64(names, front, behind, many);
-    gaps::move_gap_u8(marks, front, behind, many);
+    gapped_slices::move_gap_u64(keys, front, behind, many);
+    gapped_slices::move_gap_u64(names, front, behind, many);
+    gapped_slices::move_gap_u8(marks, front, behind, many);
 }

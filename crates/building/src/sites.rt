@@ -6,9 +6,11 @@ use crate::held::Held;
 use crate::held::rest;
 use crate::residues::put_residue;
 use crate::room::has_no_room;
-use gaps::Spot;
+use gapped_slices::Spot;
+use model::Lack;
 use model::Room;
 use model::residue_key;
+use refusals::RecordKind;
 use rows::Point3;
 use rows::Site;
 ghost use mathlib.Core.Path.{_≡_};
@@ -39,8 +41,8 @@ pub fn sizes_of(counts: Counts) -> Room
 }
 
 pub enum Put {
-    // What the site has no room for: 1 its chain, 2 its residue, 3 its atom. Nothing has changed.
-    NoRoom(u8),
+    // What the site has no room for. Nothing has changed.
+    NoRoom(RecordKind),
     Done(Held),
 }
 
@@ -69,9 +71,9 @@ fn places_of(
     let chain = chain_place(chains, counts.chains, site.chain);
     let key = residue_key(chain, site.sequence, site.insertion_code);
     let residues = rest(counts.residues, behind.residues);
-    let residue = gaps::spot_of_key(residue_keys, residues, behind.residues, key);
+    let residue = gapped_slices::spot_of_key(residue_keys, residues, behind.residues, key);
     let atoms = rest(counts.atoms, behind.atoms);
-    let atom = gaps::spot_of(atom_keys, atom_names, atoms, behind.atoms, key, site.atom);
+    let atom = gapped_slices::spot_of(atom_keys, atom_names, atoms, behind.atoms, key, site.atom);
     Places {
         chain: chain,
         key: key,
@@ -82,21 +84,21 @@ fn places_of(
 
 // ---- whether there is room
 
-fn lack_of(room: Room, counts: Counts, places: Places) -> u8
+fn lack_of(room: Room, counts: Counts, places: Places) -> Lack
     ensures { λ r. ⌜ r ≡ lackOf room counts places ⌝ }
 {
     if has_no_room(counts.chains <= places.chain, room.chains, counts.chains) {
-        return 1;
+        return Lack::Of(RecordKind::Chain);
     }
     let residue = places.residue;
     if has_no_room(residue.new, room.residues, counts.residues) {
-        return 2;
+        return Lack::Of(RecordKind::Residue);
     }
     let atom = places.atom;
     if has_no_room(atom.new, room.atoms, counts.atoms) {
-        return 3;
+        return Lack::Of(RecordKind::Atom);
     }
-    0
+    Lack::Nothing
 }
 
 // ---- what it leaves
@@ -191,7 +193,7 @@ fn store_site(
     let behind = held.behind;
     let residue = places.residue;
     let atom = places.atom;
-    records::store_u64(chains, places.chain, site.chain);
+    field_slices::store_u64(chains, places.chain, site.chain);
     let mark = mark_of(site.hetatm);
     let residues = rest(counts.residues, behind.residues);
     put_residue(
@@ -245,8 +247,8 @@ pub fn put_site(
     let places = places_of(chains, residue_keys, atom_keys, atom_names, held, site);
     let counts = held.counts;
     let lack = lack_of(room, counts, places);
-    if 0 < lack {
-        return Put::NoRoom(lack);
+    if let Lack::Of(kind) = lack {
+        return Put::NoRoom(kind);
     }
     store_site(
         chains,

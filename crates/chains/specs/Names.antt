@@ -4,7 +4,7 @@ use mathlib.Core.List.{List, _++_, map}
 use lib.ListN.{length, take, drop, replicate}
 use denote.Ref.{now}
 use denote.Triple.Both.{Both}
-use Rattle.records.specs.Slice.{Slice}
+use Rattle.field_slices.specs.Slice.{Slice}
 use Rattle.chains.specs.declared.chain.Chain.{Chain}
 
 abbrev pub namesIn : List Chain → List ℕ

@@ -1,7 +1,7 @@
 // The names of a chain list, taken out of its records and stored into them. The borrow checker covers no function over a slice of
 // structs, so `take_names` and `store_names` are proved by hand; the reader and the writer work over the names.
 use crate::chain::Chain;
-use records::smaller;
+use field_slices::smaller;
 ghost use mathlib.Core.Path.{_≡_};
 ghost use Prim.Native.Nat.{min};
 ghost use lib.ListN.{length, getD, replicate};

@@ -8,7 +8,7 @@ use native.Mathlib.Numerals.{add-one}
 use native.Mathlib.Omega.{arith}
 use lib.ListN.{getD, set, drop}
 use Rattle.model.specs.Classes.{classOf}
-use Rattle.model.specs.Walks.{lessers, aloneIn}
+use Rattle.model.specs.Neighbours.{lessers, aloneIn}
 use Rattle.model.specs.declared.classes.Class.{Class}
 use Rattle.finishing.specs.Classing.{isUnknownBy, passedAt, classAt, unknownAt, firstPlace, Classified}
 use Rattle.finishing.specs.Filling.{filled}

@@ -4,7 +4,7 @@ use mathlib.Core.List.{List, [], _++_}
 use Prim.Native.Nat.{ℕ, _-_}
 use lib.Ieee.{Float}
 use lib.ListN.{length, take, replicate}
-use Rattle.records.specs.Clearing.{cleared, zeroFloat, zeroPoint}
+use Rattle.field_slices.specs.Clearing.{cleared, zeroFloat, zeroPoint}
 use Rattle.model.specs.Lent.{Lent, lentOf, noRecords, padded, holding, emptyModel}
 use Rattle.model.specs.declared.room.Room.{Room}
 use Rattle.finishing.specs.Clearing.{clearedFrom}

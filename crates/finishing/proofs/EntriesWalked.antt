@@ -14,7 +14,7 @@ use Rattle.model.specs.Lent.{Lent, roomOf}
 use Rattle.model.specs.Lists.{any, All, count}
 use Rattle.model.specs.Map.{Entry, Map, AscendingFrom}
 use Rattle.model.specs.Records.{AtomRecord}
-use Rattle.model.specs.Walks.{lessers, aloneIn}
+use Rattle.model.specs.Neighbours.{lessers, aloneIn}
 use Rattle.model.proofs.ListLaws.{any-map}
 use Rattle.model.proofs.WalkLaws.{lessers-onward, lone-is, keys-of-entries}
 use Rattle.building.specs.declared.sites.Counts.{Counts}

@@ -7,7 +7,7 @@ use Prim.Native.Nat.{ℕ, zero, suc, _≤_, _<_, min}
 use native.Mathlib.Omega.{arith}
 use lib.ListN.{length, getD, take, length-map}
 use Rattle.names.specs.Places.{ascends}
-use Rattle.records.specs.Clearing.{cleared, zeroFloat, zeroPoint}
+use Rattle.field_slices.specs.Clearing.{cleared, zeroFloat, zeroPoint}
 use Rattle.model.specs.Classes.{classOf, isLone}
 use Rattle.model.specs.declared.classes.Class.{Class}
 use Rattle.model.specs.Finished.{unknown, known, atomRecord, classified, positioned, allPositioned, modelFrom, unless, finishedOf, Peopled}

@@ -12,13 +12,13 @@ use lib.Seq.{take-suc, split-at}
 use Rattle.names.specs.Places.{ascends}
 use Rattle.names.specs.Polymers.{polymerOf}
 use Rattle.names.specs.Positions.{positionCode}
-use Rattle.records.specs.Places.{pairs}
-use Rattle.records.proofs.MapLaws.{map-drop}
-use Rattle.records.proofs.PairLaws.{take-pairs, map-pairs}
+use Rattle.field_slices.specs.Places.{pairs}
+use Rattle.field_slices.proofs.MapLaws.{map-drop}
+use Rattle.field_slices.proofs.PairLaws.{take-pairs, map-pairs}
 use Rattle.model.specs.Keys.{chainPart}
 use Rattle.model.specs.Records.{ResidueRecord}
 use Rattle.model.specs.Termini.{positionBy, isFirst, isLast, ruledPosition}
-use Rattle.model.specs.Walks.{metWith, metIn, endsChain, positionBetween}
+use Rattle.model.specs.Neighbours.{metWith, metIn, endsChain, positionBetween}
 use Rattle.model.proofs.TerminiLaws.{first-is, last-is}
 use Rattle.finishing.specs.Filling.{filled}
 use Rattle.finishing.specs.Positioning.{metBefore, positionAt}

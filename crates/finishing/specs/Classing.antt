@@ -6,9 +6,9 @@ use Prim.Native.Nat.{ℕ, zero, suc, _+_}
 use lib.Dec.{eqb}
 use lib.ListN.{getD, drop}
 use denote.Ref.{now}
-use Rattle.records.specs.Slice.{Slice}
+use Rattle.field_slices.specs.Slice.{Slice}
 use Rattle.model.specs.Classes.{classOf}
-use Rattle.model.specs.Walks.{lessers, aloneIn}
+use Rattle.model.specs.Neighbours.{lessers, aloneIn}
 use Rattle.model.specs.declared.classes.Class.{Class}
 use Rattle.finishing.specs.Filling.{filled}
 

@@ -1,5 +1,5 @@
 -- The lent slices with zeros from the counts on: chains, residues and atoms.
-use Rattle.records.specs.Clearing.{cleared, zeroFloat, zeroPoint}
+use Rattle.field_slices.specs.Clearing.{cleared, zeroFloat, zeroPoint}
 use Rattle.model.specs.Lent.{Lent}
 use Rattle.model.specs.declared.room.Room.{Room}
 

@@ -2,8 +2,8 @@
 use mathlib.Core.List.{List}
 use Prim.Native.Nat.{ℕ, zero, suc}
 use lib.ListN.{getD, take, drop}
-use Rattle.records.specs.Places.{pairs}
-use Rattle.model.specs.Walks.{metWith, positionBetween}
+use Rattle.field_slices.specs.Places.{pairs}
+use Rattle.model.specs.Neighbours.{metWith, positionBetween}
 
 -- the chain, from 1, of the last one before residue i
 unfoldable pub metBefore : List ℕ → List ℕ → ℕ → ℕ

@@ -1,9 +1,9 @@
 // What each residue is, by its name and its atoms: the name that it leads to, its standard code and its category; and the first unknown one.
 use ascii::byte_at;
+use field_slices::u64_at;
 use model::class_of;
 use model::is_alone;
 use model::pass_lesser;
-use records::u64_at;
 ghost use mathlib.Core.Path.{_≡_};
 ghost use lib.ListN.{getD, set, take};
 ghost use Rattle.model.specs.Classes.{classOf};
@@ -34,9 +34,9 @@ fn classify_residue(
 {
     let mark = byte_at(categories, i);
     let class = class_of(u64_at(names, i), lone);
-    records::store_u64(names, i, class.name);
-    records::store_u8(codes, i, class.code);
-    records::store_u8(categories, i, class.category);
+    field_slices::store_u64(names, i, class.name);
+    field_slices::store_u8(codes, i, class.code);
+    field_slices::store_u8(categories, i, class.category);
     is_unknown(class.code, mark)
 }
 

@@ -23,15 +23,15 @@ pub fn clear_records(
 {
     let residues = kept.residues;
     let atoms = kept.atoms;
-    records::clear_u64_from(chains, kept.chains);
-    records::clear_u64_from(residue_keys, residues);
-    records::clear_u64_from(residue_names, residues);
-    records::clear_u8_from(residue_codes, residues);
-    records::clear_u8_from(residue_categories, residues);
-    records::clear_u8_from(residue_positions, residues);
-    records::clear_u64_from(atom_keys, atoms);
-    records::clear_u64_from(atom_names, atoms);
-    records::clear_u8_from(elements, atoms);
-    records::clear_point_from(positions, atoms);
-    records::clear_f64_from(occupancies, atoms);
+    field_slices::clear_u64_from(chains, kept.chains);
+    field_slices::clear_u64_from(residue_keys, residues);
+    field_slices::clear_u64_from(residue_names, residues);
+    field_slices::clear_u8_from(residue_codes, residues);
+    field_slices::clear_u8_from(residue_categories, residues);
+    field_slices::clear_u8_from(residue_positions, residues);
+    field_slices::clear_u64_from(atom_keys, atoms);
+    field_slices::clear_u64_from(atom_names, atoms);
+    field_slices::clear_u8_from(elements, atoms);
+    field_slices::clear_point_from(positions, atoms);
+    field_slices::clear_f64_from(occupancies, atoms);
 }

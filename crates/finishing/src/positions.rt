@@ -1,8 +1,8 @@
 // Each residue's position in its chain.
 use ascii::byte_at;
+use field_slices::u64_at;
 use model::met_with;
 use model::position_between;
-use records::u64_at;
 ghost use mathlib.Core.Path.{_≡_};
 ghost use Rattle.finishing.specs.Filling.{filled};
 ghost use Rattle.finishing.specs.Positioning.{positionAt};
@@ -16,7 +16,7 @@ pub(crate) fn position_residues(keys: &[u64], codes: &[u8], positions: &mut [u8]
         let key = u64_at(keys, i);
         let code = byte_at(codes, i);
         let position = position_between(keys, codes, n, i + 1, key, code, met);
-        records::store_u8(positions, i, position);
+        field_slices::store_u8(positions, i, position);
         met = met_with(met, key, code);
         i += 1;
     }

@@ -1,7 +1,7 @@
 // The intake as a program: a text from standard input; what it says to standard output, written anew, or a line that says why not.
 use libc::STDIN_FILENO;
-use serving::Answer;
-use serving::serve_own;
+use service::Answer;
+use service::serve_own;
 
 mod say;
 
@@ -17,9 +17,12 @@ fn main() {
         return;
     }
     let mut out = io::large_buffer();
-    let answer = serve_own(&text[0..n], &mut out);
+    let answer = serve_own(&text[0..n], &mut out, rows::assuming());
     match answer {
         Answer::Served { written, counts: _ } => say::text(&out[0..written]),
-        Answer::Refused(why) => say::refused(why.number(), why.line(), why.detail()),
+        Answer::Refused(why) => {
+            let reason = why.reason;
+            say::refused(reason.number(), why.line, reason.detail());
+        }
     }
 }

@@ -5,8 +5,8 @@ use Prim.Native.Nat.{ℕ, suc, _≤_, _<_, min}
 use native.Mathlib.Omega.{arith}
 use lib.ListN.{length, take, drop, getD, length-take, drop-of-length-le}
 use lib.Seq.{drop-cons, getD-take}
-use Rattle.records.specs.Places.{pairs}
-use Rattle.records.proofs.PairLaws.{length-first-pairs, first-pairs-at}
+use Rattle.field_slices.specs.Places.{pairs}
+use Rattle.field_slices.proofs.PairLaws.{length-first-pairs, first-pairs-at}
 
 module _ {A : Type 0} (l : List A) (n i : ℕ) where
   pub none-from : min n (length l) ≤ i → drop i (take n l) ≡ []

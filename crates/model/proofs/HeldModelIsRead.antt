@@ -9,7 +9,7 @@ use lib.Dec.{leb}
 use lib.ListN.{length, getD, take, replicate, length-append, length-replicate, length-map, List·getD-append, List·getD-map}
 use lib.Seq.{take-append-seam}
 use borrow.Author.Tests.{leb-true}
-use Rattle.records.specs.Clearing.{zeroFloat, zeroPoint}
+use Rattle.field_slices.specs.Clearing.{zeroFloat, zeroPoint}
 use Rattle.model.specs.Lent.{Lent, roomOf, coordinates, pointOf, residueIn, atomIn, listFrom, modelIn, padded, holding, sizesIn}
 use Rattle.model.specs.Records.{ResidueRecord, AtomRecord, Model}
 use Rattle.model.specs.WellFormed.{wellFormed, countsFit, wellFormedIn}

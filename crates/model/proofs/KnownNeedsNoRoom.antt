@@ -12,6 +12,7 @@ use Rattle.model.specs.Keys.{residueAt, atomAt}
 use Rattle.model.specs.Lists.{All}
 use Rattle.model.specs.Map.{find, isNone}
 use Rattle.model.specs.Proper.{Proper}
+use Rattle.model.specs.declared.room.Lack.the-variants.{Nothing}
 use Rattle.model.specs.declared.room.Room.{Room}
 use Rattle.model.specs.Room.{lacking}
 use Rattle.model.specs.Rules.{sameAtom}
@@ -23,7 +24,7 @@ use Rattle.model.proofs.KeysTellApart.{one-atom, key-by-residue, place-
 use Rattle.model.proofs.ListLaws.{all-at}
 
 -- ---- the theorem
-pub known-needs-no-room : (room : Room) (l : List Taken) → All Proper (sites l) → (s t : Site) → List·Memᴰ t (sites l) → sameAtom s t ≡ true → lacking room (modelOf l) (site s) ≡ 0
+pub known-needs-no-room : (room : Room) (l : List Taken) → All Proper (sites l) → (s t : Site) → List·Memᴰ t (sites l) → sameAtom s t ≡ true → lacking room (modelOf l) (site s) ≡ Nothing
 unfolding lacking
 known-needs-no-room room l p s t d e =
     let c = modelOf l .chains in

@@ -12,14 +12,15 @@ use Rattle.numbers.specs.Nearest.{NearestTo}
 use Rattle.numbers.specs.Reading.{numberOf}
 use Rattle.numbers.proofs.ValueIsNearest.{value-is-nearest}
 use Rattle.tokens.specs.Tokens.{tokenAt}
-use Rattle.words.specs.Words.{isMissing}
+use Rattle.token_values.specs.Words.{isMissing}
 use Rattle.rows.specs.declared.columns.Columns.{Columns}
-use Rattle.rows.specs.declared.fields.Coordinate.the-variants.{Missing, Given}
+use Rattle.rows.specs.declared.fields.Measure.the-variants.{Missing, Given}
 use Rattle.rows.specs.declared.rules.Row.the-variants.{Kept}
 use Rattle.rows.specs.declared.rules.Site.{Site}
 use Rattle.rows.specs.Columns.{isAbsent}
 use Rattle.rows.specs.Columns as columns
-use Rattle.rows.specs.Fields.{coordinateOf, occupancyAt, fieldsOf}
+use Rattle.rows.specs.Fields.{measureOf, occupancyAt, fieldsOf}
+use Rattle.rows.specs.declared.settings.Settings.{Settings}
 use Rattle.rows.specs.Rules.{one, rowOf}
 use Rattle.rows.proofs.RowCases.{IsOccupancy}
 use Rattle.rows.proofs.RowsKept.{kept-only}
@@ -38,7 +39,7 @@ value-finite token x e = nearest-finite _ _ _ _ x (value-is-nearest token x e .n
 not-given : {n : Number} {A : Type 0} → Missing ≡ Given n → A
 not-given e = let z : _≡_ {A = ℕ} 0 1 = cc in absurd (omega arith)
 
-pub given-number : (token : List ℕ) (n : Number) → coordinateOf token ≡ Given n → numberOf token ≡ n
+pub given-number : (token : List ℕ) (n : Number) → measureOf token ≡ Given n → numberOf token ≡ n
 given-number token n = go (isMissing token)
   where
     go : (t : Bool) → cond t Missing (Given (numberOf token)) ≡ Given n → numberOf token ≡ n
@@ -49,7 +50,7 @@ occupancy-number : (line : List ℕ) (column : ℕ) (n : Number) → occupancyAt
 unfolding occupancyAt
 occupancy-number line column n = go (isAbsent column)
   where
-    go : (t : Bool) → cond t Missing (coordinateOf (tokenAt line column)) ≡ Given n → numberOf (tokenAt line column) ≡ n
+    go : (t : Bool) → cond t Missing (measureOf (tokenAt line column)) ≡ Given n → numberOf (tokenAt line column) ≡ n
     go true e = not-given e
     go false e = given-number (tokenAt line column) n e
 
@@ -58,9 +59,9 @@ unfolding ofBits
 one-finite = tt
 
 -- ---- the theorem
-pub occupancy-is-finite : (c : Columns) (line : List ℕ) (s : Site) → rowOf (fieldsOf c line) ≡ Kept s → Finite (s .occupancy)
+pub occupancy-is-finite : (settings : Settings) (c : Columns) (line : List ℕ) (s : Site) → rowOf settings (fieldsOf c line) ≡ Kept s → Finite (s .occupancy)
 unfolding fieldsOf
-occupancy-is-finite c line s e = finite (s .occupancy) (kept-only (fieldsOf c line) s e .read .occupancy)
+occupancy-is-finite settings c line s e = finite (s .occupancy) (kept-only settings (fieldsOf c line) s e .read .occupancy)
   where
     finite : (o : Float) → IsOccupancy (fieldsOf c line .occupancy) o → Finite o
     finite o (inl h) = subst Finite (sym h) one-finite

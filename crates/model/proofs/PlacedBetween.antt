@@ -11,7 +11,7 @@ use Rattle.names.specs.declared.residues.Polymer.{Polymer}
 use Rattle.names.specs.declared.residues.Polymer.the-variants.{Protein, Nucleic, Neither}
 use Rattle.model.specs.Keys.{chainPart}
 use Rattle.model.specs.Termini.{positionBy, ofEither, isPolymer}
-use Rattle.model.specs.Walks.{endsChain, positionBetween}
+use Rattle.model.specs.Neighbours.{endsChain, positionBetween}
 
 neither-placed : (p : Polymer) (first last first' last' : Bool) → ofEither p ≡ false → positionBy p first last ≡ positionBy p first' last'
 neither-placed Protein first last first' last' e = absurd (false≢true (sym e))

@@ -7,7 +7,7 @@ use Prim.Native.Nat.{ℕ, zero, suc, _<_, _≤_}
 use native.Mathlib.Nat.{not-suc-le-zero, le-of-suc-le-suc}
 use native.Mathlib.Omega.{arith}
 use lib.ListN.{length, getD, set}
-use Rattle.records.specs.Insertion.{ins}
+use Rattle.field_slices.specs.Insertion.{ins}
 use Rattle.model.specs.Map.{Entry, Map, find, made, put}
 use Rattle.model.proofs.MapLaws.{choose-less, choose-same, choose-more}
 

@@ -2,9 +2,12 @@
 -- end fits.
 use mathlib.Core.Path.{_≡_, refl, sym, ap, _∙_, subst}
 use mathlib.Core.List.{List, [], _∷_}
-use Prim.Native.Nat.{ℕ, zero, suc}
+use Prim.Native.Nat.{ℕ}
 use native.Mathlib.Omega.{arith}
+use Rattle.refusals.specs.declared.details.RecordKind.{RecordKind}
 use Rattle.model.specs.Fold.{State, start, step, run, modelOf}
+use Rattle.model.specs.declared.room.Lack.{Lack}
+use Rattle.model.specs.declared.room.Lack.the-variants.{Nothing, Of}
 use Rattle.model.specs.declared.room.Room.{Room}
 use Rattle.model.specs.Room.{Fits, lacking, whole, stopped, onward, readFrom, readWithin}
 use Rattle.model.specs.Taken.{Taken}
@@ -15,20 +18,20 @@ module _ (room : Room) where
   unfolding run readFrom
   read-whole st [] f = refl
   read-whole st (r ∷ l) f =
-      ap (λ (d : ℕ). onward (st .rows) d (readFrom room (step st r) l)) (fits-none room st r (fitted-all room (step st r) l f)) ∙ read-whole (step st r) l f
+      ap (λ (d : Lack). onward (st .rows) d (readFrom room (step st r) l)) (fits-none room st r (fitted-all room (step st r) l f)) ∙ read-whole (step st r) l f
 
   whole-read : (st su : State) (l : List Taken) → Fits room st → readFrom room st l ≡ whole su → (su ≡ run st l) × Fits room su
   unfolding run readFrom
   whole-read st su [] f e = let q : su ≡ st = cc in (q, subst (Fits room) (sym q) f)
   whole-read st su (r ∷ l) f e = go (lacking room st r) refl e (whole-read (step st r) su l)
     where
-      apart : (d : ℕ) → stopped (st .rows) d ≡ whole su → ⊥
+      apart : (d : RecordKind) → stopped (st .rows) d ≡ whole su → ⊥
       apart d p = let z : _≡_ {A = ℕ} 0 1 = cc in omega arith
 
-      go : (d : ℕ) → lacking room st r ≡ d → onward (st .rows) d (readFrom room (step st r) l) ≡ whole su
+      go : (d : Lack) → lacking room st r ≡ d → onward (st .rows) d (readFrom room (step st r) l) ≡ whole su
           → (Fits room (step st r) → readFrom room (step st r) l ≡ whole su → (su ≡ run (step st r) l) × Fits room su) → (su ≡ run (step st r) l) × Fits room su
-      go zero n q later = later (none-fits room st r f n) q
-      go (suc d) n q later = absurd (apart (suc d) q)
+      go Nothing n q later = later (none-fits room st r f n) q
+      go (Of d) n q later = absurd (apart d q)
 
   -- ---- the theorems
   pub read-to-the-end : (l : List Taken) → Fits room (modelOf l) → readWithin room l ≡ whole (modelOf l)

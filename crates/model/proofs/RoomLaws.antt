@@ -1,10 +1,10 @@
 -- A row lacks room for nothing exactly where the state after it fits: each of chains, residues and atoms is one more where the row has a new one, and
 -- else as many as before. So no row makes any of them fewer.
-use mathlib.Core.Path.{_≡_, refl}
-use mathlib.Core.Bool.{Bool, true, false, cond}
+use mathlib.Core.Path.{_≡_, refl, ap}
+use mathlib.Core.Bool.{Bool, true, false, cond, false≢true}
 use mathlib.Core.List.{List, [], _∷_}
 use Prim.Native.Nat.{ℕ, suc, _≤_}
-use native.Mathlib.Nat.{suc-ne-zero, le-trans}
+use native.Mathlib.Nat.{le-trans}
 use native.Mathlib.Omega.{arith}
 use lib.Dec.{leb}
 use lib.ListN.{length}
@@ -14,8 +14,10 @@ use Rattle.model.specs.Chains.{chainPlace, withChain}
 use Rattle.model.specs.Fold.{State, first, greater, start, step, run}
 use Rattle.model.specs.Keys.{residueAt, atomAt}
 use Rattle.model.specs.Map.{find, put, isNone}
+use Rattle.model.specs.declared.room.Lack.{Lack}
+use Rattle.model.specs.declared.room.Lack.the-variants.{Nothing, Of}
 use Rattle.model.specs.declared.room.Room.{Room}
-use Rattle.model.specs.Room.{Fits, noRoom, lacking}
+use Rattle.model.specs.Room.{Fits, noRoom, firstLack, lacking}
 use Rattle.model.specs.Taken.{Taken, skipped, site}
 use Rattle.model.proofs.ChainsFirstMet.{length-with}
 use Rattle.model.proofs.MapLaws.{length-put}
@@ -33,11 +35,15 @@ no-fewer : (room many after : ℕ) (new : Bool) → after ≡ cond new (suc many
 no-fewer room many after true e = omega arith
 no-fewer room many after false e = omega arith
 
-first-lack : (a b c : Bool) → _≡_ {A = ℕ} (cond a 1 (cond b 2 (cond c 3 0))) 0 → (a ≡ false) × (b ≡ false) × (c ≡ false)
-first-lack true b c e = absurd (suc-ne-zero 0 e)
-first-lack false true c e = absurd (suc-ne-zero 1 e)
-first-lack false false true e = absurd (suc-ne-zero 2 e)
-first-lack false false false e = (refl, refl, refl)
+abbrev isNothing : Lack → Bool
+isNothing Nothing = true
+isNothing (Of kind) = false
+
+pub nothing-lacks : (chain residue atom : Bool) → firstLack chain residue atom ≡ Nothing → (chain ≡ false) × (residue ≡ false) × (atom ≡ false)
+nothing-lacks true residue atom e = absurd (false≢true (ap isNothing e))
+nothing-lacks false true atom e = absurd (false≢true (ap isNothing e))
+nothing-lacks false false true e = absurd (false≢true (ap isNothing e))
+nothing-lacks false false false e = (refl, refl, refl)
 
 -- ---- what a row adds
 module _ (room : Room) (st : State) (s : Site) where
@@ -67,14 +73,14 @@ module _ (room : Room) (st : State) (s : Site) where
     h _ _ _ newAtom (length-put (atomAt c s) (greater s) (st .atoms)),
   )
 
-  fits-site : Fits room (step st (site s)) → lacking room st (site s) ≡ 0
+  fits-site : Fits room (step st (site s)) → lacking room st (site s) ≡ Nothing
   unfolding step lacking
   fits-site f = let h = sizes (λ room many after new. after ≤ room → noRoom new room many ≡ false) enough in rw (h .0 (f .chains), h .1 (f .residues), h .2 (f .atoms))
 
-  site-fits : Fits room st → lacking room st (site s) ≡ 0 → Fits room (step st (site s))
+  site-fits : Fits room st → lacking room st (site s) ≡ Nothing → Fits room (step st (site s))
   unfolding step lacking
   site-fits f e =
-      let n = first-lack (noRoom newChain (room .chains) (length (st .chains))) (noRoom newResidue (room .residues) (length (st .residues))) (noRoom newAtom (room .atoms) (length (st .atoms))) e in
+      let n = nothing-lacks (noRoom newChain (room .chains) (length (st .chains))) (noRoom newResidue (room .residues) (length (st .residues))) (noRoom newAtom (room .atoms) (length (st .atoms))) e in
       let h = sizes (λ room many after new. many ≤ room → noRoom new room many ≡ false → after ≤ room) suffices in
       record { chains = h .0 (f .chains) (n .0); residues = h .1 (f .residues) (n .1); atoms = h .2 (f .atoms) (n .2) }
 
@@ -86,12 +92,12 @@ module _ (room : Room) (st : State) (s : Site) where
 
 module _ (room : Room) where
   -- ---- a row lacks nothing exactly where the state after it fits, and no row makes anything fewer
-  pub fits-none : (st : State) (r : Taken) → Fits room (step st r) → lacking room st r ≡ 0
+  pub fits-none : (st : State) (r : Taken) → Fits room (step st r) → lacking room st r ≡ Nothing
   unfolding lacking
   fits-none st skipped f = refl
   fits-none st (site s) f = fits-site room st s f
 
-  pub none-fits : (st : State) (r : Taken) → Fits room st → lacking room st r ≡ 0 → Fits room (step st r)
+  pub none-fits : (st : State) (r : Taken) → Fits room st → lacking room st r ≡ Nothing → Fits room (step st r)
   unfolding step
   none-fits st skipped f e = record { chains = f .chains; residues = f .residues; atoms = f .atoms }
   none-fits st (site s) f e = site-fits room st s f e

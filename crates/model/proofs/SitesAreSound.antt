@@ -15,20 +15,21 @@ use Rattle.numbers.specs.declared.reading.Number.the-variants.{Value}
 use Rattle.numbers.specs.Rounding.{printable}
 use Rattle.numbers.proofs.ValueIsPrintable.{value-is-printable}
 use Rattle.tokens.specs.Tokens.{tokenAt}
-use Rattle.words.specs.Words.{isMissing}
-use Rattle.words.proofs.SequenceLaws.{sequence-below}
+use Rattle.token_values.specs.Words.{isMissing}
+use Rattle.token_values.proofs.SequenceLaws.{sequence-below}
 use Rattle.tokens.proofs.TokensAreOfTheLine.{tokens-are-of-the-line}
 use Rattle.names.specs.Elements.{elementOf}
 use Rattle.names.specs.Packing.{IsName, packedIn, packed, unpackedIn, unpacked}
 use Rattle.names.proofs.ElementsAtMost118.{elements-at-most-118}
 use Rattle.names.proofs.PackingIsOneToOne.{Letters, packed-fits, unpacked-packed, one-to-one}
 use Rattle.rows.specs.declared.columns.Columns.{Columns}
-use Rattle.rows.specs.declared.fields.Coordinate.the-variants.{Given}
+use Rattle.rows.specs.declared.fields.Measure.the-variants.{Given}
 use Rattle.rows.specs.declared.rules.Row.the-variants.{Kept}
 use Rattle.rows.specs.declared.rules.Site.{Site}
 use Rattle.rows.specs.Columns.{isAbsent}
 use Rattle.rows.specs.Columns as columns
-use Rattle.rows.specs.Fields.{nameOf, chainOf, insertionCodeOf, coordinateOf, insertionCodeAt, elementAt, fieldsOf}
+use Rattle.rows.specs.Fields.{nameOf, chainOf, insertionCodeOf, measureOf, insertionCodeAt, elementAt, fieldsOf}
+use Rattle.rows.specs.declared.settings.Settings.{Settings}
 use Rattle.rows.specs.Rules.{rowOf}
 use Rattle.rows.proofs.RowsKept.{kept-only}
 use Rattle.rows.proofs.WholeRowsReach.{whole-rows-reach}
@@ -133,14 +134,14 @@ element-at line column = go (isAbsent column)
     go true = omega arith
     go false = elements-at-most-118 (tokenAt line column)
 
-near-of : (token : List ℕ) (v : Float) → coordinateOf token ≡ Given (Value v) → printable v ≡ true
+near-of : (token : List ℕ) (v : Float) → measureOf token ≡ Given (Value v) → printable v ≡ true
 near-of token v e = value-is-printable token v (given-number token (Value v) e)
 
 -- ---- the theorem
-pub sites-are-sound : (columns : Columns) (line : List ℕ) (s : Site) → every isTextByte line ≡ true → rowOf (fieldsOf columns line) ≡ Kept s → Sound s
+pub sites-are-sound : (settings : Settings) (columns : Columns) (line : List ℕ) (s : Site) → every isTextByte line ≡ true → rowOf settings (fieldsOf columns line) ≡ Kept s → Sound s
 unfolding fieldsOf
-sites-are-sound c line s h e =
-    let k = kept-only (fieldsOf c line) s e in
+sites-are-sound settings c line s h e =
+    let k = kept-only settings (fieldsOf c line) s e in
     let reached = whole-rows-reach c line (k .read .reach) in
     let name = chain-name (tokenAt line (columns.chain c)) (reached (columns.chain c) (List·Memᴰ·tail (List·Memᴰ·tail (List·Memᴰ·head refl)))) (k .names .chain) (text (columns.chain c)) in
     subst Sound (sym (k .site)) (record {
@@ -148,7 +149,7 @@ sites-are-sound c line s h e =
         sequence = sequence-below (tokenAt line (columns.sequence c));
         code = code-bound _ (code-at line (columns.insertionCode c) (text (columns.insertionCode c)));
         atom = packed-fits (tokenAt line (columns.atom c)) (λ i l. text-letters (tokenAt line (columns.atom c)) (text (columns.atom c)) i l .1);
-        occupancy = occupancy-is-finite c line s e;
+        occupancy = occupancy-is-finite settings c line s e;
       };
       chain = name .0;
       noPoint = name .1;

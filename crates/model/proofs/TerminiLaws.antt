@@ -12,7 +12,7 @@ use Rattle.model.specs.Keys.{chainPart}
 use Rattle.model.specs.Lists.{any, All}
 use Rattle.model.specs.Records.{ResidueRecord}
 use Rattle.model.specs.Termini.{isPolymer, besides, isFirst, isLast}
-use Rattle.model.specs.Walks.{metIn, endsChain}
+use Rattle.model.specs.Neighbours.{metIn, endsChain}
 use Rattle.model.proofs.AscendingLaws.{ascends-all, ascends-before, ascends-from}
 use Rattle.model.proofs.ListLaws.{any-none, any-append, all-map, all-of, all-at, mem-middle}
 

@@ -18,7 +18,7 @@ use Rattle.model.specs.Keys.{atomPlace}
 use Rattle.model.specs.Lists.{filter, any, All}
 use Rattle.model.specs.Map.{Map, Ascending}
 use Rattle.model.specs.Records.{AtomRecord}
-use Rattle.model.specs.Walks.{lessers, aloneIn}
+use Rattle.model.specs.Neighbours.{lessers, aloneIn}
 use Rattle.model.proofs.AscendingLaws.{ascends-all, map-ascends}
 use Rattle.model.proofs.ListLaws.{all-of, any-none, any-map, filter-map}
 

@@ -8,10 +8,10 @@ use native.Mathlib.Omega.{arith}
 use lib.Dec.{eqb}
 use lib.ListN.{length, take, drop, getD}
 use borrow.Author.Tests.{lt-ltb, le-ltb}
-use Rattle.records.specs.Places.{pairs}
+use Rattle.field_slices.specs.Places.{pairs}
 use Rattle.model.specs.Keys.{chainPart}
 use Rattle.model.specs.Termini.{isPolymer}
-use Rattle.model.specs.Walks.{lessers, aloneIn, endsChain}
+use Rattle.model.specs.Neighbours.{lessers, aloneIn, endsChain}
 use Rattle.model.proofs.FirstEntries.{none-from, one-from, no-pair-from, pair-from}
 
 module _ (key : ℕ) (keys : List ℕ) (n i : ℕ) where

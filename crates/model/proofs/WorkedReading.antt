@@ -13,6 +13,7 @@ use Rattle.model.specs.Chains.{chainPlace, withChain}
 use Rattle.model.specs.Fold.{step}
 use Rattle.model.specs.Keys.{residueKey, atomPlace, residueAt, atomAt}
 use Rattle.model.specs.Map.{find, put}
+use Rattle.refusals.specs.declared.details.RecordKind.the-variants as kind
 use Rattle.model.specs.declared.room.Room.{Room}
 use Rattle.model.specs.Room.{lacking, whole, stopped, readFrom, readWithin}
 use Rattle.model.specs.Taken.{Taken, site}
@@ -80,14 +81,14 @@ module _ (p q r : Point3) where
   unfolding readFrom lacking step put find chainPlace withChain residueAt atomAt packedIn lt ofBits
   whole-case = refl
 
-  pub no-room-for-atom : readWithin (room 1 2 1) case ≡ stopped 2 3
+  pub no-room-for-atom : readWithin (room 1 2 1) case ≡ stopped 2 kind.Atom
   unfolding readFrom lacking step put find chainPlace withChain residueAt atomAt packedIn lt ofBits
   no-room-for-atom = refl
 
-  pub no-room-for-residue : readWithin (room 1 1 1) case ≡ stopped 2 2
+  pub no-room-for-residue : readWithin (room 1 1 1) case ≡ stopped 2 kind.Residue
   unfolding readFrom lacking step put find chainPlace withChain residueAt atomAt packedIn lt ofBits
   no-room-for-residue = refl
 
-  pub no-room-for-chain : readWithin (room 0 0 0) case ≡ stopped 0 1
+  pub no-room-for-chain : readWithin (room 0 0 0) case ≡ stopped 0 kind.Chain
   unfolding readFrom lacking step put find chainPlace withChain residueAt atomAt packedIn lt ofBits
   no-room-for-chain = refl

@@ -13,10 +13,6 @@ use Rattle.model.specs.Map.{Entry, Map}
 use Rattle.model.specs.Records.{ResidueRecord, AtomRecord, Model}
 use Rattle.model.specs.Termini.{ruledPosition}
 
--- the refusal's number
-abbrev pub unknownNumber : ℕ
-unknownNumber = 11
-
 pub data Finished : Type 0 where
   -- the first unknown residue's place, from 1 over the model
   unknown : ℕ → Finished

@@ -6,8 +6,8 @@ use denote.Ref.{RefT, now}
 use denote.Triple.Both.{Both}
 use lib.ListN.{length, getD, take, replicate}
 use Rattle.rows.specs.declared.rules.Point3.{Point3}
-use Rattle.records.specs.Clearing.{zeroFloat, zeroPoint}
-use Rattle.records.specs.Slice.{Slice, held}
+use Rattle.field_slices.specs.Clearing.{zeroFloat, zeroPoint}
+use Rattle.field_slices.specs.Slice.{Slice, held}
 use Rattle.model.specs.declared.room.Room.{Room}
 use Rattle.model.specs.Records.{ResidueRecord, AtomRecord, Model}
 

@@ -15,5 +15,5 @@ pub mod Sound
 pub mod Taken
 pub mod TakenOut
 pub mod Termini
-pub mod Walks
+pub mod Neighbours
 pub mod WellFormed

@@ -1,5 +1,6 @@
 // The room for chains, residues and atoms: the sizes of document 01, and no more than the shortest slice has.
-use records::smaller;
+use field_slices::smaller;
+use refusals::RecordKind;
 ghost use mathlib.Core.Path.{_≡_};
 ghost use Prim.Native.Nat.{min};
 ghost use Rattle.model.specs.Lent.{lent, roomOf, noRecords};
@@ -8,6 +9,12 @@ pub struct Room {
     pub chains: usize,
     pub residues: usize,
     pub atoms: usize,
+}
+
+// What a row lacks room for.
+pub enum Lack {
+    Nothing,
+    Of(RecordKind),
 }
 
 pub fn no_records() -> Room

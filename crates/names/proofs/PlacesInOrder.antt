@@ -12,11 +12,11 @@ use lib.ListN.{length, getD, take}
 use lib.Seq.{take-length}
 use borrow.Author.Tests.{eq-eqb, ne-eqb, ltb-true}
 use Rattle.ascii.proofs.TestLaws.{left-of, right-of}
-use Rattle.records.specs.declared.places.Place as place
-use Rattle.records.specs.declared.places.Place.the-variants as found
-use Rattle.records.specs.Places.{Ascending, Found}
-use Rattle.records.proofs.OrderLaws.{numbers}
-use Rattle.records.proofs.PlaceLaws.{getD-any, ascending-at, Says, place-says}
+use Rattle.field_slices.specs.declared.places.Place as place
+use Rattle.field_slices.specs.declared.places.Place.the-variants as found
+use Rattle.field_slices.specs.Places.{Ascending, Found}
+use Rattle.field_slices.proofs.OrderLaws.{numbers}
+use Rattle.field_slices.proofs.PlaceLaws.{getD-any, ascending-at, Says, place-says}
 use Rattle.names.specs.declared.search.Place.{Place}
 use Rattle.names.specs.declared.search.Place.the-variants.{At, Nowhere}
 use Rattle.names.specs.Places.{next, placeOf, ascends}

@@ -13,9 +13,9 @@ pub(crate) fn place_in_order(names: &[u64], name: u64) -> Place
     requires { ⌜ ascends (now names) ≡ true ⌝ }
     ensures { λ r. ⌜ r ≡ placeOf name (now (names .entry)) ⌝ }
 {
-    match records::place_of_key(names, names.len(), name) {
-        records::Place::At(i) => Place::At(i),
-        records::Place::Before(_) => Place::Nowhere,
+    match field_slices::place_of_key(names, names.len(), name) {
+        field_slices::Place::At(i) => Place::At(i),
+        field_slices::Place::Before(_) => Place::Nowhere,
     }
 }
 

@@ -10,8 +10,9 @@ use Rattle.lines.specs.Domain.{outsideOf}
 use Rattle.lines.specs.Lines.{linesOf}
 use Rattle.lines.specs.declared.domain.Outside.{Outside}
 use Rattle.lines.specs.declared.domain.Outside.the-variants.{None, At}
-use Rattle.states.specs.Heads.{startHeads}
-use Rattle.states.specs.declared.heads.Heads.{Heads}
+use Rattle.line_states.specs.Heads.{startHeads}
+use Rattle.line_states.specs.declared.heads.Heads.{Heads}
+use Rattle.rows.specs.declared.settings.Settings.{Settings}
 use Rattle.model.specs.Finished.{Finished, unknown, known, finishedOf}
 use Rattle.model.specs.Fold.{State, start}
 use Rattle.model.specs.Lent.{Lent, roomOf}
@@ -20,23 +21,24 @@ use Rattle.building.specs.Holds.{Records, recordsIn, Holds}
 use Rattle.building.specs.declared.sites.Counts.{Counts}
 use Rattle.finishing.specs.Finishing as finishing
 use Rattle.finishing.specs.declared.finished.Finish.{Finish}
-use Rattle.taking.specs.Lines.{Progress, going, halted, linesRead}
-use Rattle.taking.specs.Standing.{Stands, ahead}
-use Rattle.taking.specs.declared.refusals.Refusal.{Refusal}
-use Rattle.taking.specs.declared.refusals.Refusal.the-variants.{TextTooLong}
-use Rattle.taking.specs.declared.taking.Halt.{Halt}
-use Rattle.taking.specs.declared.taking.Halt.the-variants.{Going, Refused}
+use Rattle.acts.specs.Lines.{Progress, going, halted, linesRead}
+use Rattle.acts.specs.Standing.{Stands, ahead}
+use Rattle.refusals.specs.declared.reasons.Refusal.{Refusal}
+use Rattle.refusals.specs.declared.reasons.Reason.the-variants.{TextTooLong}
+use Rattle.acts.specs.declared.reading_lines.Halt.{Halt}
+use Rattle.acts.specs.declared.reading_lines.Halt.the-variants.{Going, Refused}
 use Rattle.reader.specs.Closing.{haltedBy, haltedEarly, finishedBy, PeopledIn}
 use Rattle.reader.specs.Reading.{Reading, largest, countsOf, finished, atEnd, afterDomain, readOf, answerOf, leftBy}
+use Rattle.refusals.specs.Reasons.{at}
 
 -- ---- before all lines
-pub early : (room : Room) (text : List ℕ) → atEnd (ahead (haltedEarly text) (linesRead room 1 startHeads start (linesOf text))) ≡ readOf room text
+pub early : (settings : Settings) (room : Room) (text : List ℕ) → atEnd (ahead (haltedEarly text) (linesRead settings room 1 startHeads start (linesOf text))) ≡ readOf settings room text
 unfolding readOf haltedEarly
-early room text = go (ltb largest (length text)) (outsideOf text)
+early settings room text = go (ltb largest (length text)) (outsideOf text)
   where
     go : (b : Bool) (o : Outside)
-        → atEnd (ahead (cond b (Refused TextTooLong) (haltedBy o)) (linesRead room 1 startHeads start (linesOf text)))
-        ≡ cond b (Reading.refused TextTooLong) (afterDomain room text o)
+        → atEnd (ahead (cond b (Refused (at 0 TextTooLong)) (haltedBy o)) (linesRead settings room 1 startHeads start (linesOf text)))
+        ≡ cond b (Reading.refused (at 0 TextTooLong)) (afterDomain settings room text o)
     go true o = refl
     go false None = refl
     go false (At line byte) = refl

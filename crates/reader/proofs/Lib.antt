@@ -3,7 +3,6 @@ pub mod ReadByTheRows
 pub mod ReadIsWellFormed
 pub mod ReadWhole
 pub mod RefusalsAreExact
-pub mod RefusalsAreNumbered
 pub mod RefusedAtTheFirst
 pub mod RowsAreSound
 pub mod SlicesOfOneSize

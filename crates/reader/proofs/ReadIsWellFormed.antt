@@ -3,6 +3,7 @@ use mathlib.Core.Path.{_≡_}
 use mathlib.Core.Bool.{true}
 use mathlib.Core.List.{List}
 use Prim.Native.Nat.{ℕ}
+use Rattle.rows.specs.declared.settings.Settings.{Settings}
 use Rattle.model.specs.Records.{Model}
 use Rattle.model.specs.WellFormed.{wellFormed}
 use Rattle.model.specs.declared.room.Room.{Room}
@@ -14,7 +15,7 @@ use Rattle.reader.proofs.ReadByTheRows.{read-exactly}
 use Rattle.reader.proofs.RowsAreSound.{rows-are-sound}
 
 -- ---- the theorem
-pub read-is-well-formed : (room : Room) (text : List ℕ) (m : Model) (counts : Counts) → readOf room text ≡ read m counts → wellFormed m ≡ true
-read-is-well-formed room text m counts e =
-    let h = read-exactly room text m counts .0 e in
-    built-is-well-formed (rowsOf text) (rows-are-sound text (h .0 .inside)) m (h .2)
+pub read-is-well-formed : (settings : Settings) (room : Room) (text : List ℕ) (m : Model) (counts : Counts) → readOf settings room text ≡ read m counts → wellFormed m ≡ true
+read-is-well-formed settings room text m counts e =
+    let h = read-exactly settings room text m counts .0 e in
+    built-is-well-formed (rowsOf settings text) (rows-are-sound settings text (h .0 .inside)) m (h .2)

@@ -4,7 +4,7 @@ use mathlib.Core.List.{map}
 use Prim.Native.Nat.{ℕ, min, _≤_}
 use native.Mathlib.Omega.{arith}
 use lib.ListN.{length}
-use Rattle.records.specs.Clearing.{zeroFloat, zeroPoint}
+use Rattle.field_slices.specs.Clearing.{zeroFloat, zeroPoint}
 use Rattle.model.specs.Lent.{Lent, roomOf, holding, padded, coordinates}
 use Rattle.model.specs.Records.{Model}
 use Rattle.building.specs.Holds.{recordsIn, SameLengths, Within}

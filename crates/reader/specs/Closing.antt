@@ -9,7 +9,10 @@ use lib.ListN.{length}
 use Rattle.lines.specs.Domain.{outsideOf}
 use Rattle.lines.specs.declared.domain.Outside.{Outside}
 use Rattle.lines.specs.declared.domain.Outside.the-variants.{None, At}
-use Rattle.states.specs.declared.heads.Heads.{Heads}
+use Rattle.refusals.specs.Reasons.{at}
+use Rattle.refusals.specs.declared.reasons.Reason.the-variants.{TextTooLong, OutsideDomain, UnknownResidue}
+use Rattle.rows.specs.declared.settings.Settings.{Settings}
+use Rattle.line_states.specs.declared.heads.Heads.{Heads}
 use Rattle.model.specs.Finished.{Peopled}
 use Rattle.model.specs.Lent.{Lent, roomOf}
 use Rattle.building.specs.Holds.{recordsIn}
@@ -17,26 +20,25 @@ use Rattle.building.specs.declared.sites.Counts.{Counts}
 use Rattle.finishing.specs.declared.finished.Finish.{Finish}
 use Rattle.finishing.specs.declared.finished.Finish.the-variants.{Unknown, Known}
 use Rattle.reader.specs.declared.answers.Answer.{Answer}
-use Rattle.taking.specs.declared.refusals.Refusal.the-variants.{TextTooLong, OutsideDomain, UnknownResidue}
-use Rattle.taking.specs.declared.taking.Halt.{Halt}
-use Rattle.taking.specs.declared.taking.Halt.the-variants.{Going, Refused}
-use Rattle.taking.specs.Lines.{Progress, going, halted}
+use Rattle.acts.specs.declared.reading_lines.Halt.{Halt}
+use Rattle.acts.specs.declared.reading_lines.Halt.the-variants.{Going, Refused}
+use Rattle.acts.specs.Lines.{Progress, going, halted}
 use Rattle.reader.specs.Reading.{largest, readOf, atEnd, answerOf, leftBy}
-use Rattle.taking.specs.Standing.{Stands}
+use Rattle.acts.specs.Standing.{Stands}
 
 -- ---- before all lines
 
 abbrev pub haltedBy : Outside → Halt
 haltedBy None = Going
-haltedBy (At line byte) = Refused (OutsideDomain line byte)
+haltedBy (At line byte) = Refused (at line (OutsideDomain byte))
 
 unfoldable pub haltedEarly : List ℕ → Halt
-haltedEarly text = cond (ltb largest (length text)) (Refused TextTooLong) (haltedBy (outsideOf text))
+haltedEarly text = cond (ltb largest (length text)) (Refused (at 0 TextTooLong)) (haltedBy (outsideOf text))
 
 -- ---- after all lines
 
 abbrev pub finishedBy : Finish → Counts → Answer
-finishedBy (Unknown place) counts = Answer.Refused (UnknownResidue place)
+finishedBy (Unknown place) counts = Answer.Refused (at 0 (UnknownResidue place))
 finishedBy Known counts = Answer.Read counts
 
 -- each residue has an atom
@@ -52,5 +54,5 @@ Closes l counts halt r after =
 
 -- ---- the promise of `read`
 
-abbrev pub ReadBy : Lent → List ℕ → Answer → Lent → Type 0
-ReadBy l text r after = let reading = readOf (roomOf l) text in (r ≡ answerOf reading) × (after ≡ leftBy l reading)
+abbrev pub ReadBy : Settings → Lent → List ℕ → Answer → Lent → Type 0
+ReadBy settings l text r after = let reading = readOf settings (roomOf l) text in (r ≡ answerOf reading) × (after ≡ leftBy l reading)

@@ -8,7 +8,11 @@ use Rattle.lines.specs.Domain.{outsideOf}
 use Rattle.lines.specs.Lines.{linesOf}
 use Rattle.lines.specs.declared.domain.Outside.{Outside}
 use Rattle.lines.specs.declared.domain.Outside.the-variants.{None, At}
-use Rattle.states.specs.Heads.{startHeads}
+use Rattle.refusals.specs.Reasons.{at}
+use Rattle.refusals.specs.declared.reasons.Reason.the-variants.{TextTooLong, OutsideDomain, UnknownResidue}
+use Rattle.refusals.specs.declared.reasons.Refusal.{Refusal}
+use Rattle.rows.specs.declared.settings.Settings.{Settings}
+use Rattle.line_states.specs.Heads.{startHeads}
 use Rattle.model.specs.Finished.{Finished, unknown, known, finishedOf}
 use Rattle.model.specs.Fold.{State, start}
 use Rattle.model.specs.Lent.{Lent, holding, emptyModel}
@@ -16,9 +20,7 @@ use Rattle.model.specs.Records.{Model}
 use Rattle.model.specs.declared.room.Room.{Room}
 use Rattle.building.specs.declared.sites.Counts.{Counts}
 use Rattle.reader.specs.declared.answers.Answer.{Answer}
-use Rattle.taking.specs.declared.refusals.Refusal.{Refusal}
-use Rattle.taking.specs.declared.refusals.Refusal.the-variants.{TextTooLong, OutsideDomain, UnknownResidue}
-use Rattle.taking.specs.Lines.{Progress, going, halted, linesRead}
+use Rattle.acts.specs.Lines.{Progress, going, halted, linesRead}
 
 -- "Text at most 16,777,216 bytes"
 abbrev pub largest : ℕ
@@ -41,18 +43,18 @@ countsOf st = record {
 
 abbrev pub finished : Counts → Finished → Reading
 finished counts (known m) = read m counts
-finished counts (unknown place) = refused (UnknownResidue place)
+finished counts (unknown place) = refused (at 0 (UnknownResidue place))
 
 abbrev pub atEnd : Progress → Reading
 atEnd (going heads st) = finished (countsOf st) (finishedOf st)
 atEnd (halted why) = refused why
 
-abbrev pub afterDomain : Room → List ℕ → Outside → Reading
-afterDomain room text None = atEnd (linesRead room 1 startHeads start (linesOf text))
-afterDomain room text (At line byte) = refused (OutsideDomain line byte)
+abbrev pub afterDomain : Settings → Room → List ℕ → Outside → Reading
+afterDomain settings room text None = atEnd (linesRead settings room 1 startHeads start (linesOf text))
+afterDomain settings room text (At line byte) = refused (at line (OutsideDomain byte))
 
-unfoldable pub readOf : Room → List ℕ → Reading
-readOf room text = cond (ltb largest (length text)) (refused TextTooLong) (afterDomain room text (outsideOf text))
+unfoldable pub readOf : Settings → Room → List ℕ → Reading
+readOf settings room text = cond (ltb largest (length text)) (refused (at 0 TextTooLong)) (afterDomain settings room text (outsideOf text))
 
 -- ---- what is answered, and what is left in the slices
 

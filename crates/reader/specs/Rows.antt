@@ -1,13 +1,14 @@
 -- The rows of a text: what its lines give to the model, one after the other.
 use mathlib.Core.List.{List, [], _∷_, _++_}
-use Prim.Native.Nat.{ℕ, suc}
+use Prim.Native.Nat.{ℕ}
 use Rattle.lines.specs.Lines.{linesOf}
-use Rattle.states.specs.Heads.{startHeads}
-use Rattle.states.specs.declared.heads.Heads.{Heads}
+use Rattle.rows.specs.declared.settings.Settings.{Settings}
+use Rattle.line_states.specs.Heads.{startHeads}
+use Rattle.line_states.specs.declared.heads.Heads.{Heads}
 use Rattle.model.specs.Taken.{Taken, skipped, site}
-use Rattle.taking.specs.declared.plans.Act.{Act}
-use Rattle.taking.specs.declared.plans.Act.the-variants.{Pass, Skip, Keep, Refuse}
-use Rattle.taking.specs.Lines.{planOf}
+use Rattle.acts.specs.declared.plans.Act.{Act}
+use Rattle.acts.specs.declared.plans.Act.the-variants.{Pass, Skip, Keep, Refuse}
+use Rattle.acts.specs.Lines.{planOf}
 
 abbrev pub rowIn : Act → List Taken
 rowIn Pass = []
@@ -15,12 +16,11 @@ rowIn Skip = skipped ∷ []
 rowIn (Keep s) = site s ∷ []
 rowIn (Refuse why) = []
 
--- of lines, the first of which has this number
-unfoldable pub rowsFrom : ℕ → Heads → List (List ℕ) → List Taken
-rowsFrom number heads [] = []
-rowsFrom number heads (line ∷ lines) =
-    let plan = planOf number heads line in
-    rowIn (plan .act) ++ rowsFrom (suc number) (plan .heads) lines
+unfoldable pub rowsFrom : Settings → Heads → List (List ℕ) → List Taken
+rowsFrom settings heads [] = []
+rowsFrom settings heads (line ∷ lines) =
+    let plan = planOf settings heads line in
+    rowIn (plan .act) ++ rowsFrom settings (plan .heads) lines
 
-abbrev pub rowsOf : List ℕ → List Taken
-rowsOf text = rowsFrom 1 startHeads (linesOf text)
+abbrev pub rowsOf : Settings → List ℕ → List Taken
+rowsOf settings text = rowsFrom settings startHeads (linesOf text)

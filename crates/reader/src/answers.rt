@@ -1,6 +1,6 @@
 // What a reading answers: the counts of the model, or why the text is refused.
 use building::Counts;
-use taking::Refusal;
+use refusals::Refusal;
 
 pub enum Answer {
     Read(Counts),

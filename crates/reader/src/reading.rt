@@ -1,14 +1,16 @@
 // `read_by_names`: any bytes in; the model in the lent slices, or a refusal.
 use crate::answers::Answer;
+use acts::Halt;
+use acts::read_lines;
 use building::Counts;
 use finishing::Finish;
 use finishing::clear_records;
 use finishing::finish_model;
 use lines::Outside;
-use model::Room;
-use taking::Halt;
-use taking::Refusal;
-use taking::read_lines;
+use model::no_records;
+use refusals::Reason;
+use refusals::Refusal;
+use rows::Settings;
 ghost use mathlib.Core.Path.{_≡_};
 ghost use Rattle.model.specs.Lent.{lent};
 ghost use Rattle.reader.specs.Closing.{haltedBy, haltedEarly, finishedBy, Closes, ReadBy};
@@ -21,9 +23,9 @@ fn halted_by(outside: Outside) -> Halt
 {
     match outside {
         Outside::None => Halt::Going,
-        Outside::At(line, byte) => Halt::Refused(Refusal::OutsideDomain {
+        Outside::At(line, byte) => Halt::Refused(Refusal {
             line: line,
-            byte: byte,
+            reason: Reason::OutsideDomain { byte: byte },
         }),
     }
 }
@@ -33,7 +35,10 @@ fn halted_early(text: &[u8]) -> Halt
     ensures { λ r. ⌜ r ≡ haltedEarly (now (text .entry)) ⌝ }
 {
     if LARGEST < text.len() {
-        return Halt::Refused(Refusal::TextTooLong);
+        return Halt::Refused(Refusal {
+            line: 0,
+            reason: Reason::TextTooLong,
+        });
     }
     halted_by(lines::first_outside(text))
 }
@@ -42,7 +47,10 @@ fn finished_by(finish: Finish, counts: Counts) -> Answer
     ensures { λ r. ⌜ r ≡ finishedBy finish counts ⌝ }
 {
     match finish {
-        Finish::Unknown(place) => Answer::Refused(Refusal::UnknownResidue { place: place }),
+        Finish::Unknown(place) => Answer::Refused(Refusal {
+            line: 0,
+            reason: Reason::UnknownResidue { place: place },
+        }),
         Finish::Known => Answer::Read(counts),
     }
 }
@@ -80,11 +88,7 @@ fn close(
                 elements,
                 positions,
                 occupancies,
-                Room {
-                    chains: 0,
-                    residues: 0,
-                    atoms: 0,
-                },
+                no_records(),
             );
             Answer::Refused(why)
         }
@@ -121,9 +125,10 @@ pub fn read_by_names(
     elements: &mut [u8],
     positions: &mut [[f64; 3]],
     occupancies: &mut [f64],
+    settings: Settings,
 ) -> Answer
     ensures { λ r. ⌜ (let l = lent chains «residue_keys» «residue_names» «residue_codes» «residue_categories» «residue_positions» «atom_keys» «atom_names» elements positions occupancies in
-        ReadBy (l .entry) (now (text .entry)) r (l .exit)) ⌝ }
+        ReadBy settings (l .entry) (now (text .entry)) r (l .exit)) ⌝ }
 {
     let room = model::room_of(
         chains,
@@ -151,6 +156,7 @@ pub fn read_by_names(
         elements,
         positions,
         occupancies,
+        settings,
         room,
     );
     let counts = standing.counts;

@@ -2,7 +2,7 @@
 use crate::say::say;
 use crate::say::say_bits;
 use crate::say::say_number;
-use records::smaller;
+use field_slices::smaller;
 
 // The length of the name and the name.
 fn say_name(packed: u64) {

@@ -7,17 +7,18 @@ use crate::say::say;
 use crate::say::say_number;
 use building::Counts;
 use reader::Answer;
-use taking::Refusal;
+use refusals::Refusal;
 
 fn say_refusal(why: Refusal) {
+    let reason = why.reason;
     say(b"refused ");
-    say_number(why.number() as u64);
+    say_number(reason.number() as u64);
     // The published Rust does not tell the place of a residue that it does not know.
-    if why.line() != 0 {
+    if why.line != 0 {
         say(b" line ");
-        say_number(why.line() as u64);
+        say_number(why.line as u64);
         say(b" detail ");
-        say_number(why.detail() as u64);
+        say_number(reason.detail() as u64);
     }
 }
 
@@ -68,6 +69,7 @@ fn answer(text: &[u8]) {
         &mut elements,
         &mut positions,
         &mut occupancies,
+        rows::assuming(),
     );
     let counts = say_answer(answer);
     say_chains(&chains, counts.chains);

@@ -41,5 +41,5 @@ pub(crate) fn quote(name: &[u8]) {
 
 // The number is moved up by 2 ^ 31.
 pub(crate) fn sequence(token: &[u8]) {
-    say_number(words::sequence_of(token) as u64);
+    say_number(token_values::sequence_of(token) as u64);
 }

@@ -6,7 +6,7 @@ use mathlib.Core.Bool.{Bool, cond}
 use Prim.Native.Nat.{ℕ}
 use borrow.Author.Tests.{ne-eqb}
 use Rattle.tokens.specs.Tokens.{tokenAt}
-use Rattle.words.specs.Sequence.{sequenceOf}
+use Rattle.token_values.specs.Sequence.{sequenceOf}
 use Rattle.rows.specs.declared.columns.Columns.{Columns}
 use Rattle.rows.specs.Columns.{absent, columnOf, chosen}
 use Rattle.rows.specs.Fields.{nameOf, chainOf, fieldsOf}

@@ -3,7 +3,7 @@
 use mathlib.Core.Path.{_≡_, refl, sym, ap, _∙_}
 use mathlib.Core.List.{List, [], _∷_}
 use mathlib.Core.Bool.{Bool, true, false, _&&_, _||_, not, cond}
-use Prim.Native.Nat.{ℕ, zero, suc, _+_, _≤_, _<_, zero-le}
+use Prim.Native.Nat.{ℕ, zero, suc, _+_, _-_, _≤_, _<_, zero-le}
 use native.Mathlib.Numerals.{add-one}
 use native.Mathlib.Nat.{le-trans, le-of-lt}
 use native.Mathlib.Omega.{arith}
@@ -11,6 +11,7 @@ use lib.Dec.{T, leb, ltb, leb→le, ltb→lt, nltb→le}
 use lib.ListN.{length, getD, drop, drop-of-length-le}
 use lib.Seq.{drop-cons}
 use borrow.Author.Tests.{le-leb, lt-leb}
+use Rattle.refusals.specs.Details.{columnAt}
 use Rattle.rows.specs.declared.columns.Columns.{Columns}
 use Rattle.rows.specs.declared.fields.Reach.{Reach}
 use Rattle.rows.specs.declared.fields.Reach.the-variants.{Whole, ColumnMissing, Short}
@@ -103,10 +104,12 @@ module _ (columns : Columns) (n : ℕ) where
   abbrev far : ℕ
   far = furthestOf columns
 
-  pub column-missing : (k : ℕ) → k ≡ firstAbsent 1 (required columns) → (k ≡ 0 → ⊥) → ColumnMissing k ≡ reach
+  pub column-missing : (k : ℕ) → k ≡ firstAbsent 1 (required columns) → (k ≡ 0 → ⊥) → ColumnMissing (columnAt (k - 1)) ≡ reach
   unfolding reachOf
   column-missing zero e some = absurd (some refl)
-  column-missing (suc k) e some = rw (sym e)
+  column-missing (suc k) e some =
+      let one-less : suc k - 1 ≡ k = omega arith in
+      ap (λ (before : ℕ). ColumnMissing (columnAt before)) one-less ∙ rw (sym e)
 
   by-far : 0 ≡ firstAbsent 1 (required columns) → (t : Bool) → leb (n) far ≡ t → cond t Short Whole ≡ reach
   unfolding reachOf furthestOf

@@ -7,16 +7,18 @@ use lib.Dec.{T, nltb→le}
 use lib.Ieee.{Float}
 use borrow.Author.Tests.{le-ltb}
 use Rattle.numbers.specs.declared.reading.Number.the-variants.{Value}
-use Rattle.rows.specs.declared.fields.Coordinate.{Coordinate}
-use Rattle.rows.specs.declared.fields.Coordinate.the-variants.{Given}
+use Rattle.refusals.specs.declared.details.Label.the-variants.{Atom, Residue, Chain}
+use Rattle.refusals.specs.declared.reasons.Reason.the-variants.{NameTooLong}
+use Rattle.rows.specs.declared.fields.Measure.{Measure}
+use Rattle.rows.specs.declared.fields.Measure.the-variants.{Given}
 use Rattle.rows.specs.declared.fields.Fields.{Fields}
 use Rattle.rows.specs.declared.fields.Reach.{Reach}
 use Rattle.rows.specs.declared.fields.Reach.the-variants.{Whole}
 use Rattle.rows.specs.declared.rules.Point3.{Point3}
-use Rattle.rows.specs.declared.rules.Refusal.the-variants.{NameTooLong}
 use Rattle.rows.specs.declared.rules.Row.{Row}
 use Rattle.rows.specs.declared.rules.Row.the-variants.{Refused, Skipped, Kept}
 use Rattle.rows.specs.declared.rules.Site.{Site}
+use Rattle.rows.specs.declared.settings.Settings.{Settings}
 use Rattle.rows.specs.Rules.{siteOf, tooLong, named, byOccupancy, occupied, located, givenAll, reached, byReach, rowOf}
 use Rattle.rows.proofs.RowCases.{Read, row-is}
 
@@ -31,14 +33,14 @@ named-kept : (f : Fields) → NamesFit f → (position : Point3) (o : Float) (as
 unfolding named
 named-kept f n position o assumed = rw (le-ltb 8 (f .atom .length) (n .atom), le-ltb 8 (f .residue .length) (n .residue), le-ltb 8 (f .chain .length) (n .chain))
 
-pub kept : (f : Fields) {x y z o : Float} → f .reach ≡ Whole → f .x ≡ Given (Value x) → f .y ≡ Given (Value y) → f .z ≡ Given (Value z) → f .occupancy ≡ Given (Value o) → NamesFit f → rowOf f ≡ Kept (siteOf f (record { x = x; y = y; z = z }) o false)
+pub kept : (settings : Settings) (f : Fields) {x y z o : Float} → f .reach ≡ Whole → f .x ≡ Given (Value x) → f .y ≡ Given (Value y) → f .z ≡ Given (Value z) → f .occupancy ≡ Given (Value o) → NamesFit f → rowOf settings f ≡ Kept (siteOf f (record { x = x; y = y; z = z }) o false)
 unfolding rowOf reached located occupied
-kept f {x} {y} {z} {o} er ex ey ez eo n =
-    ap (λ (r : Reach). byReach r (reached f)) er
-    ∙ ap (λ (c : Coordinate). givenAll c (f .y) (f .z) (located f)) ex
-    ∙ ap (λ (c : Coordinate). givenAll (Given (Value x)) c (f .z) (located f)) ey
-    ∙ ap (λ (c : Coordinate). givenAll (Given (Value x)) (Given (Value y)) c (located f)) ez
-    ∙ ap (λ (c : Coordinate). byOccupancy c (named f (record { x = x; y = y; z = z }))) eo
+kept settings f {x} {y} {z} {o} er ex ey ez eo n =
+    ap (λ (r : Reach). byReach r (reached settings f)) er
+    ∙ ap (λ (c : Measure). givenAll c (f .y) (f .z) (located settings f)) ex
+    ∙ ap (λ (c : Measure). givenAll (Given (Value x)) c (f .z) (located settings f)) ey
+    ∙ ap (λ (c : Measure). givenAll (Given (Value x)) (Given (Value y)) c (located settings f)) ez
+    ∙ ap (λ (c : Measure). byOccupancy settings c (named f (record { x = x; y = y; z = z }))) eo
     ∙ named-kept f n (record { x = x; y = y; z = z }) o false
 
 -- ---- kept: all of it
@@ -58,11 +60,11 @@ named-only f position o assumed w = go (tooLong (f .atom)) (tooLong (f .residue)
   where
     go :
         (t u v : Bool) → (T (not t) → f .atom .length ≤ 8) → (T (not u) → f .residue .length ≤ 8) → (T (not v) → f .chain .length ≤ 8)
-        → IfKept f (cond t (Refused (NameTooLong 1)) (cond u (Refused (NameTooLong 2)) (cond v (Refused (NameTooLong 3)) (Kept (siteOf f position o assumed)))))
+        → IfKept f (cond t (Refused (NameTooLong Atom)) (cond u (Refused (NameTooLong Residue)) (cond v (Refused (NameTooLong Chain)) (Kept (siteOf f position o assumed)))))
     go true u v a r c = tt
     go false true v a r c = tt
     go false false true a r c = tt
     go false false false a r c = record { read = w; names = record { atom = a tt; residue = r tt; chain = c tt }; site = refl }
 
-pub kept-only : (f : Fields) (s : Site) → rowOf f ≡ Kept s → KeptOf f s
-kept-only f s e = subst (IfKept f) e (row-is (IfKept f) (λ r. tt) f tt (named-only f))
+pub kept-only : (settings : Settings) (f : Fields) (s : Site) → rowOf settings f ≡ Kept s → KeptOf f s
+kept-only settings f s e = subst (IfKept f) e (row-is settings (IfKept f) (λ r. tt) f tt (named-only f))

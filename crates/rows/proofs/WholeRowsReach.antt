@@ -19,7 +19,7 @@ use Rattle.rows.specs.Reach.{required, optional, firstAbsent, misses, re
 
 abbrev isWhole : Reach → Bool
 isWhole Whole = true
-isWhole (ColumnMissing k) = false
+isWhole (ColumnMissing column) = false
 isWhole Short = false
 
 by-whole : (k : ℕ) (t u : Bool) → isWhole (reachBy k (t || u)) ≡ true → (k ≡ 0) × (t ≡ false)

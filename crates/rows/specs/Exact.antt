@@ -1,15 +1,20 @@
 -- When a row is refused: what each of steps 1 to 7 asks of a row that the steps before it let pass.
 use mathlib.Core.Path.{_≡_}
-use Prim.Native.Nat.{ℕ, _≤_, _<_}
+use Prim.Native.Nat.{_≤_, _<_}
 use lib.Ieee.{Float}
 use Rattle.numbers.specs.declared.reading.Number.{Number}
 use Rattle.numbers.specs.declared.reading.Number.the-variants as number
-use Rattle.rows.specs.declared.fields.Coordinate.the-variants.{Given}
+use Rattle.refusals.specs.declared.details.Axis.{Axis}
+use Rattle.refusals.specs.declared.details.Axis.the-variants.{X, Y, Z}
+use Rattle.refusals.specs.declared.details.Column.{Column}
+use Rattle.refusals.specs.declared.details.Label.the-variants.{Atom, Residue, Chain}
+use Rattle.refusals.specs.declared.details.Quantity.the-variants.{Coordinate, Occupancy}
+use Rattle.refusals.specs.declared.reasons.Reason.{Reason}
+use Rattle.refusals.specs.declared.reasons.Reason.the-variants.{ColumnMissing, RowShort, OutsideGrammar, BeyondReach, NameTooLong}
+use Rattle.rows.specs.declared.fields.Measure.the-variants.{Given}
 use Rattle.rows.specs.declared.fields.Fields.{Fields}
 use Rattle.rows.specs.declared.fields.Reach.the-variants as reach
 use Rattle.rows.specs.declared.rules.Point3.{Point3}
-use Rattle.rows.specs.declared.rules.Refusal.{Refusal}
-use Rattle.rows.specs.declared.rules.Refusal.the-variants.{ColumnMissing, RowShort, OutsideGrammar, BeyondReach, NameTooLong}
 
 -- past steps 1 to 4: the row reaches all that it must, and x, y and z are given
 pub record Reaches (f : Fields) (a b c : Number) : Type 0 where
@@ -28,23 +33,23 @@ pub record Occupied (f : Fields) : Type 0 where
   pub located : Located f position
   pub occupancy : f .occupancy ≡ Given number.BeyondReach → ⊥
 
--- grammar, then reach, of the axis k
-pub data Fails (k : ℕ) : Number → Refusal → Type 0 where
-  grammar : Fails k number.OutsideGrammar (OutsideGrammar k)
-  beyond : Fails k number.BeyondReach (BeyondReach k)
+-- grammar, then reach, of the number on an axis
+pub data Fails (axis : Axis) : Number → Reason → Type 0 where
+  grammar : Fails axis number.OutsideGrammar (OutsideGrammar axis)
+  beyond : Fails axis number.BeyondReach (BeyondReach (Coordinate axis))
 
-pub data RowEarns (f : Fields) : Refusal → Type 0 where
+pub data RowEarns (f : Fields) : Reason → Type 0 where
   -- 1
-  missing : {k : ℕ} → f .reach ≡ reach.ColumnMissing k → RowEarns f (ColumnMissing k)
+  missing : {column : Column} → f .reach ≡ reach.ColumnMissing column → RowEarns f (ColumnMissing column)
   -- 2, 3
   short : f .reach ≡ reach.Short → RowEarns f RowShort
   -- 5
-  failsX : {a b c : Number} {why : Refusal} → Reaches f a b c → Fails 1 a why → RowEarns f why
-  failsY : {x : Float} {b c : Number} {why : Refusal} → Reaches f (number.Value x) b c → Fails 2 b why → RowEarns f why
-  failsZ : {x y : Float} {c : Number} {why : Refusal} → Reaches f (number.Value x) (number.Value y) c → Fails 3 c why → RowEarns f why
+  failsX : {a b c : Number} {why : Reason} → Reaches f a b c → Fails X a why → RowEarns f why
+  failsY : {x : Float} {b c : Number} {why : Reason} → Reaches f (number.Value x) b c → Fails Y b why → RowEarns f why
+  failsZ : {x y : Float} {c : Number} {why : Reason} → Reaches f (number.Value x) (number.Value y) c → Fails Z c why → RowEarns f why
   -- 6
-  occupancy : {position : Point3} → Located f position → f .occupancy ≡ Given number.BeyondReach → RowEarns f (BeyondReach 4)
+  occupancy : {position : Point3} → Located f position → f .occupancy ≡ Given number.BeyondReach → RowEarns f (BeyondReach Occupancy)
   -- 7
-  longAtom : Occupied f → 8 < f .atom .length → RowEarns f (NameTooLong 1)
-  longResidue : Occupied f → f .atom .length ≤ 8 → 8 < f .residue .length → RowEarns f (NameTooLong 2)
-  longChain : Occupied f → f .atom .length ≤ 8 → f .residue .length ≤ 8 → 8 < f .chain .length → RowEarns f (NameTooLong 3)
+  longAtom : Occupied f → 8 < f .atom .length → RowEarns f (NameTooLong Atom)
+  longResidue : Occupied f → f .atom .length ≤ 8 → 8 < f .residue .length → RowEarns f (NameTooLong Residue)
+  longChain : Occupied f → f .atom .length ≤ 8 → f .residue .length ≤ 8 → 8 < f .chain .length → RowEarns f (NameTooLong Chain)

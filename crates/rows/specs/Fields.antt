@@ -8,14 +8,14 @@ use Rattle.ascii.specs.Bytes.{bytes, first}
 use Rattle.numbers.specs.Reading.{numberOf}
 use Rattle.tokens.specs.Split.{tokenIn}
 use Rattle.tokens.specs.Tokens.{tokensOf, tokenAt}
-use Rattle.words.specs.Words.{isMissing, isHetatm}
-use Rattle.words.specs.Sequence.{sequenceOf}
+use Rattle.token_values.specs.Words.{isMissing, isHetatm}
+use Rattle.token_values.specs.Sequence.{sequenceOf}
 use Rattle.names.specs.Packing.{packed}
 use Rattle.names.specs.Elements.{elementOf}
 use Rattle.rows.specs.declared.columns.Columns.{Columns}
 use Rattle.rows.specs.declared.fields.Name.{Name}
-use Rattle.rows.specs.declared.fields.Coordinate.{Coordinate}
-use Rattle.rows.specs.declared.fields.Coordinate.the-variants.{Missing, Given}
+use Rattle.rows.specs.declared.fields.Measure.{Measure}
+use Rattle.rows.specs.declared.fields.Measure.the-variants.{Missing, Given}
 use Rattle.rows.specs.declared.fields.Fields.{Fields}
 use Rattle.rows.specs.declared.fields.Labels.{Labels}
 use Rattle.rows.specs.declared.fields.Numbers.{Numbers}
@@ -37,8 +37,8 @@ chainOf token = cond (isMissing token) (nameOf (bytes "?")) (nameOf token)
 abbrev pub insertionCodeOf : List ℕ → ℕ
 insertionCodeOf token = cond (isMissing token) 0 (first token)
 
-abbrev pub coordinateOf : List ℕ → Coordinate
-coordinateOf token = cond (isMissing token) Missing (Given (numberOf token))
+abbrev pub measureOf : List ℕ → Measure
+measureOf token = cond (isMissing token) Missing (Given (numberOf token))
 
 -- ---- the token at a column
 
@@ -57,8 +57,8 @@ hetatmAt line column = ifDeclared column (isHetatm (tokenAt line column)) false
 unfoldable pub insertionCodeAt : List ℕ → ℕ → ℕ
 insertionCodeAt line column = ifDeclared column (insertionCodeOf (tokenAt line column)) 0
 
-unfoldable pub occupancyAt : List ℕ → ℕ → Coordinate
-occupancyAt line column = ifDeclared column (coordinateOf (tokenAt line column)) Missing
+unfoldable pub occupancyAt : List ℕ → ℕ → Measure
+occupancyAt line column = ifDeclared column (measureOf (tokenAt line column)) Missing
 
 unfoldable pub elementAt : List ℕ → ℕ → ℕ
 elementAt line column = ifDeclared column (elementOf (tokenAt line column)) 0
@@ -76,9 +76,9 @@ labelsOf c line = record {
 
 abbrev pub numbersOf : Columns → List ℕ → Numbers
 numbersOf c line = record {
-  x = coordinateOf (tokenAt line (columns.x c));
-  y = coordinateOf (tokenAt line (columns.y c));
-  z = coordinateOf (tokenAt line (columns.z c));
+  x = measureOf (tokenAt line (columns.x c));
+  y = measureOf (tokenAt line (columns.y c));
+  z = measureOf (tokenAt line (columns.z c));
   occupancy = occupancyAt line (columns.occupancy c);
 }
 

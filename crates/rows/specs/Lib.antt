@@ -2,5 +2,5 @@ pub mod Columns
 pub mod Exact
 pub mod Fields
 pub mod Reach
-pub mod Refusals
 pub mod Rules
+pub mod Settings

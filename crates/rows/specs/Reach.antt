@@ -3,6 +3,7 @@ use Prim.Native.Nat.{ℕ, zero, suc}
 use mathlib.Core.Bool.{Bool, false, _&&_, _||_, not, cond}
 use mathlib.Core.List.{List, [], _∷_}
 use lib.Dec.{leb, ltb}
+use Rattle.refusals.specs.Details.{columnAt}
 use Rattle.rows.specs.declared.columns.Columns.{Columns}
 use Rattle.rows.specs.declared.fields.Reach.{Reach}
 use Rattle.rows.specs.declared.fields.Reach.the-variants.{Whole, ColumnMissing, Short}
@@ -28,7 +29,7 @@ misses n (column ∷ columns) = (not (isAbsent column) && leb n column) || misse
 -- by the place of the missing column, and whether the row is short
 abbrev pub reachBy : ℕ → Bool → Reach
 reachBy zero short = cond short Short Whole
-reachBy (suc k) short = ColumnMissing (suc k)
+reachBy (suc k) short = ColumnMissing (columnAt k)
 
 unfoldable pub reachOf : Columns → ℕ → Reach
 reachOf columns n = reachBy (firstAbsent 1 (required columns)) (misses n (required columns) || misses n (optional columns))

@@ -1,23 +1,29 @@
 -- The rules of a row, document 01's steps 1 to 7, over its fields. Each step says what becomes of a row that has passed those before it.
-use Prim.Native.Nat.{ℕ}
 use mathlib.Core.Bool.{Bool, true, false, cond}
 use lib.Dec.{ltb}
 use lib.Ieee.{Float, binary64, ofBits}
 use Rattle.numbers.specs.declared.reading.Number.{Number}
 use Rattle.numbers.specs.declared.reading.Number.the-variants as number
-use Rattle.rows.specs.declared.fields.Coordinate.{Coordinate}
-use Rattle.rows.specs.declared.fields.Coordinate.the-variants.{Missing, Given}
+use Rattle.refusals.specs.declared.details.Axis.{Axis}
+use Rattle.refusals.specs.declared.details.Axis.the-variants.{X, Y, Z}
+use Rattle.refusals.specs.declared.details.Label.the-variants.{Atom, Residue, Chain}
+use Rattle.refusals.specs.declared.details.Quantity.the-variants as quantity
+use Rattle.refusals.specs.declared.reasons.Reason.the-variants as reason
+use Rattle.rows.specs.declared.fields.Measure.{Measure}
+use Rattle.rows.specs.declared.fields.Measure.the-variants.{Missing, Given}
 use Rattle.rows.specs.declared.fields.Fields.{Fields}
 use Rattle.rows.specs.declared.fields.Name.{Name}
 use Rattle.rows.specs.declared.fields.Reach.{Reach}
 use Rattle.rows.specs.declared.fields.Reach.the-variants.{Whole, ColumnMissing, Short}
-use Rattle.rows.specs.declared.rules.Axis.{Axis}
-use Rattle.rows.specs.declared.rules.Axis.the-variants as axis
+use Rattle.rows.specs.declared.rules.Coordinate.{Coordinate}
+use Rattle.rows.specs.declared.rules.Coordinate.the-variants as coordinate
 use Rattle.rows.specs.declared.rules.Point3.{Point3}
-use Rattle.rows.specs.declared.rules.Refusal.the-variants as refusal
 use Rattle.rows.specs.declared.rules.Row.{Row}
 use Rattle.rows.specs.declared.rules.Row.the-variants.{Refused, Skipped, Kept}
 use Rattle.rows.specs.declared.rules.Site.{Site}
+use Rattle.rows.specs.declared.settings.Settings.{Settings}
+use Rattle.rows.specs.declared.settings.Unreadable.{Unreadable}
+use Rattle.rows.specs.declared.settings.Unreadable.the-variants.{Assumed}
 
 -- 7: names over 8 bytes, atom, residue, chain
 abbrev pub tooLong : Name → Bool
@@ -39,57 +45,60 @@ siteOf f position occupancy assumed = record {
 
 unfoldable pub named : Fields → Point3 → Float → Bool → Row
 named f position occupancy assumed =
-    cond (tooLong (f .atom)) (Refused (refusal.NameTooLong 1))
-    (cond (tooLong (f .residue)) (Refused (refusal.NameTooLong 2))
-    (cond (tooLong (f .chain)) (Refused (refusal.NameTooLong 3))
+    cond (tooLong (f .atom)) (Refused (reason.NameTooLong Atom))
+    (cond (tooLong (f .residue)) (Refused (reason.NameTooLong Residue))
+    (cond (tooLong (f .chain)) (Refused (reason.NameTooLong Chain))
     (Kept (siteOf f position occupancy assumed))))
 
 -- 6: reach; what is absent, missing or outside the grammar is 1.0, and assumed
 abbrev pub one : Float
 one = ofBits binary64 0x3ff0_0000_0000_0000
 
-abbrev pub byOccupancy : Coordinate → (Float → Bool → Row) → Row
-byOccupancy Missing row = row one true
-byOccupancy (Given number.OutsideGrammar) row = row one true
-byOccupancy (Given number.BeyondReach) row = Refused (refusal.BeyondReach 4)
-byOccupancy (Given (number.Value v)) row = row v false
+abbrev pub unread : Unreadable → (Float → Bool → Row) → Row
+unread Assumed row = row one true
 
-unfoldable pub occupied : Fields → Point3 → Row
-occupied f position = byOccupancy (f .occupancy) (named f position)
+abbrev pub byOccupancy : Settings → Measure → (Float → Bool → Row) → Row
+byOccupancy settings Missing row = row one true
+byOccupancy settings (Given number.OutsideGrammar) row = unread (settings .occupancy) row
+byOccupancy settings (Given number.BeyondReach) row = Refused (reason.BeyondReach quantity.Occupancy)
+byOccupancy settings (Given (number.Value v)) row = row v false
+
+unfoldable pub occupied : Settings → Fields → Point3 → Row
+occupied settings f position = byOccupancy settings (f .occupancy) (named f position)
 
 -- 5: x, then y, then z: grammar, then reach
-abbrev pub axisOf : ℕ → Number → Axis
-axisOf k number.OutsideGrammar = axis.Refused (refusal.OutsideGrammar k)
-axisOf k number.BeyondReach = axis.Refused (refusal.BeyondReach k)
-axisOf k (number.Value v) = axis.Value v
+abbrev pub coordinateOf : Axis → Number → Coordinate
+coordinateOf axis number.OutsideGrammar = coordinate.Refused (reason.OutsideGrammar axis)
+coordinateOf axis number.BeyondReach = coordinate.Refused (reason.BeyondReach (quantity.Coordinate axis))
+coordinateOf axis (number.Value v) = coordinate.Value v
 
-abbrev pub byAxis : Axis → (Float → Row) → Row
-byAxis (axis.Refused refusal) row = Refused refusal
-byAxis (axis.Value v) row = row v
+abbrev pub byCoordinate : Coordinate → (Float → Row) → Row
+byCoordinate (coordinate.Refused why) row = Refused why
+byCoordinate (coordinate.Value v) row = row v
 
-unfoldable pub located : Fields → Number → Number → Number → Row
-located f x y z =
-    byAxis (axisOf 1 x) (λ x.
-    byAxis (axisOf 2 y) (λ y.
-    byAxis (axisOf 3 z) (λ z.
-    occupied f (record { x = x; y = y; z = z }))))
+unfoldable pub located : Settings → Fields → Number → Number → Number → Row
+located settings f x y z =
+    byCoordinate (coordinateOf X x) (λ x.
+    byCoordinate (coordinateOf Y y) (λ y.
+    byCoordinate (coordinateOf Z z) (λ z.
+    occupied settings f (record { x = x; y = y; z = z }))))
 
 -- 4: x, y or z is missing: skipped
-abbrev pub given : Coordinate → (Number → Row) → Row
+abbrev pub given : Measure → (Number → Row) → Row
 given Missing row = Skipped
 given (Given n) row = row n
 
-abbrev pub givenAll : Coordinate → Coordinate → Coordinate → (Number → Number → Number → Row) → Row
+abbrev pub givenAll : Measure → Measure → Measure → (Number → Number → Number → Row) → Row
 givenAll x y z row = given x (λ x. given y (λ y. given z (λ z. row x y z)))
 
-unfoldable pub reached : Fields → Row
-reached f = givenAll (f .x) (f .y) (f .z) (located f)
+unfoldable pub reached : Settings → Fields → Row
+reached settings f = givenAll (f .x) (f .y) (f .z) (located settings f)
 
 -- 1 to 3
 abbrev pub byReach : Reach → Row → Row
-byReach (ColumnMissing k) row = Refused (refusal.ColumnMissing k)
-byReach Short row = Refused refusal.RowShort
+byReach (ColumnMissing column) row = Refused (reason.ColumnMissing column)
+byReach Short row = Refused reason.RowShort
 byReach Whole row = row
 
-unfoldable pub rowOf : Fields → Row
-rowOf f = byReach (f .reach) (reached f)
+unfoldable pub rowOf : Settings → Fields → Row
+rowOf settings f = byReach (f .reach) (reached settings f)

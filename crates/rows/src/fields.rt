@@ -3,6 +3,7 @@ use crate::columns::Columns;
 use crate::columns::is_absent;
 use crate::reach::reach_of;
 use numbers::Number;
+use refusals::Column;
 use tokens::LONGEST;
 use tokens::Part;
 ghost use mathlib.Core.Path.{_≡_};
@@ -12,14 +13,14 @@ ghost use lib.ListN.{length, take};
 ghost use Rattle.tokens.specs.Longest.{longest};
 ghost use Rattle.tokens.specs.Split.{tokenIn, IsPart};
 ghost use Rattle.tokens.specs.Tokens.{tokenAt};
-ghost use Rattle.words.specs.Sequence.{sequenceOf};
-ghost use Rattle.rows.specs.Fields.{nameOf, chainOf, insertionCodeOf, coordinateOf, InCell, hetatmAt, insertionCodeAt, occupancyAt, elementAt, labelsOf, numbersOf, joinedOf, fieldsOf};
+ghost use Rattle.token_values.specs.Sequence.{sequenceOf};
+ghost use Rattle.rows.specs.Fields.{nameOf, chainOf, insertionCodeOf, measureOf, InCell, hetatmAt, insertionCodeAt, occupancyAt, elementAt, labelsOf, numbersOf, joinedOf, fieldsOf};
 
 // Whether the row has all the columns that it must have, and reaches them.
 pub enum Reach {
     Whole,
-    // The place of the first missing one, 1 to 7.
-    ColumnMissing(u8),
+    // The first missing one.
+    ColumnMissing(Column),
     Short,
 }
 
@@ -30,7 +31,7 @@ pub struct Name {
 }
 
 // A number that may not be given: `.` or `?`, or no column.
-pub enum Coordinate {
+pub enum Measure {
     Missing,
     Given(Number),
 }
@@ -43,10 +44,10 @@ pub struct Fields {
     pub chain: Name,
     pub sequence: u32,
     pub insertion_code: u8,
-    pub x: Coordinate,
-    pub y: Coordinate,
-    pub z: Coordinate,
-    pub occupancy: Coordinate,
+    pub x: Measure,
+    pub y: Measure,
+    pub z: Measure,
+    pub occupancy: Measure,
     pub element: u8,
 }
 
@@ -62,7 +63,7 @@ fn name_of(token: &[u8]) -> Name
 fn chain_of(token: &[u8]) -> Name
     ensures { λ r. ⌜ r ≡ chainOf (now (token .entry)) ⌝ }
 {
-    if words::is_missing(token) {
+    if token_values::is_missing(token) {
         return name_of(b"?");
     }
     name_of(token)
@@ -71,19 +72,19 @@ fn chain_of(token: &[u8]) -> Name
 fn insertion_code_of(token: &[u8]) -> u8
     ensures { λ r. ⌜ r ≡ insertionCodeOf (now (token .entry)) ⌝ }
 {
-    if words::is_missing(token) {
+    if token_values::is_missing(token) {
         return 0;
     }
     ascii::byte_at(token, 0)
 }
 
-fn coordinate_of(token: &[u8]) -> Coordinate
-    ensures { λ r. ⌜ r ≡ coordinateOf (now (token .entry)) ⌝ }
+fn measure_of(token: &[u8]) -> Measure
+    ensures { λ r. ⌜ r ≡ measureOf (now (token .entry)) ⌝ }
 {
-    if words::is_missing(token) {
-        return Coordinate::Missing;
+    if token_values::is_missing(token) {
+        return Measure::Missing;
     }
-    Coordinate::Given(numbers::read_number(token))
+    Measure::Given(numbers::read_number(token))
 }
 
 // ---- the token at a column, out of the cell that the line's tokens were copied to
@@ -118,16 +119,16 @@ fn sequence_at(cell: &[u8], places: &[usize], n: usize, column: u8) -> u32
     let part = part_at(cell, places, n, column);
     let start = part.start;
     let end = part.end;
-    words::sequence_of(&cell[start..end])
+    token_values::sequence_of(&cell[start..end])
 }
 
-fn coordinate_at(cell: &[u8], places: &[usize], n: usize, column: u8) -> Coordinate
-    ensures { λ r. ⌜ ((line : List ℕ) → InCell line (now (cell .entry)) (now (places .entry)) n → r ≡ coordinateOf (tokenAt line column)) ⌝ }
+fn measure_at(cell: &[u8], places: &[usize], n: usize, column: u8) -> Measure
+    ensures { λ r. ⌜ ((line : List ℕ) → InCell line (now (cell .entry)) (now (places .entry)) n → r ≡ measureOf (tokenAt line column)) ⌝ }
 {
     let part = part_at(cell, places, n, column);
     let start = part.start;
     let end = part.end;
-    coordinate_of(&cell[start..end])
+    measure_of(&cell[start..end])
 }
 
 fn hetatm_at(cell: &[u8], places: &[usize], n: usize, column: u8) -> bool
@@ -139,7 +140,7 @@ fn hetatm_at(cell: &[u8], places: &[usize], n: usize, column: u8) -> bool
     let part = part_at(cell, places, n, column);
     let start = part.start;
     let end = part.end;
-    words::is_hetatm(&cell[start..end])
+    token_values::is_hetatm(&cell[start..end])
 }
 
 fn insertion_code_at(cell: &[u8], places: &[usize], n: usize, column: u8) -> u8
@@ -154,13 +155,13 @@ fn insertion_code_at(cell: &[u8], places: &[usize], n: usize, column: u8) -> u8
     insertion_code_of(&cell[start..end])
 }
 
-fn occupancy_at(cell: &[u8], places: &[usize], n: usize, column: u8) -> Coordinate
+fn occupancy_at(cell: &[u8], places: &[usize], n: usize, column: u8) -> Measure
     ensures { λ r. ⌜ ((line : List ℕ) → InCell line (now (cell .entry)) (now (places .entry)) n → r ≡ occupancyAt line column) ⌝ }
 {
     if is_absent(column) {
-        return Coordinate::Missing;
+        return Measure::Missing;
     }
-    coordinate_at(cell, places, n, column)
+    measure_at(cell, places, n, column)
 }
 
 fn element_at(cell: &[u8], places: &[usize], n: usize, column: u8) -> u8
@@ -185,10 +186,10 @@ struct Labels {
 }
 
 struct Numbers {
-    x: Coordinate,
-    y: Coordinate,
-    z: Coordinate,
-    occupancy: Coordinate,
+    x: Measure,
+    y: Measure,
+    z: Measure,
+    occupancy: Measure,
 }
 
 fn labels_in(columns: Columns, cell: &[u8], places: &[usize], n: usize) -> Labels
@@ -211,9 +212,9 @@ fn labels_in(columns: Columns, cell: &[u8], places: &[usize], n: usize) -> Label
 fn numbers_in(columns: Columns, cell: &[u8], places: &[usize], n: usize) -> Numbers
     ensures { λ r. ⌜ ((line : List ℕ) → InCell line (now (cell .entry)) (now (places .entry)) n → r ≡ numbersOf columns line) ⌝ }
 {
-    let x = coordinate_at(cell, places, n, columns.x());
-    let y = coordinate_at(cell, places, n, columns.y());
-    let z = coordinate_at(cell, places, n, columns.z());
+    let x = measure_at(cell, places, n, columns.x());
+    let y = measure_at(cell, places, n, columns.y());
+    let z = measure_at(cell, places, n, columns.z());
     let occupancy = occupancy_at(cell, places, n, columns.occupancy());
     Numbers { x, y, z, occupancy }
 }

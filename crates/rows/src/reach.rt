@@ -2,6 +2,7 @@
 use crate::columns::Columns;
 use crate::columns::is_absent;
 use crate::fields::Reach;
+use refusals::column_at;
 ghost use mathlib.Core.Path.{_≡_};
 ghost use Rattle.rows.specs.Reach.{required, optional, firstAbsent, farther, furthest, furthestOf, reachOf};
 
@@ -90,7 +91,7 @@ pub(crate) fn reach_of(columns: Columns, n: usize) -> Reach
 {
     let missing = missing_column(columns);
     if missing != 0 {
-        return Reach::ColumnMissing(missing);
+        return Reach::ColumnMissing(column_at(missing - 1));
     }
     let far = furthest_column(columns) as usize;
     if n <= far {

@@ -1,25 +1,22 @@
 // The rules of a row, steps 1 to 7, over its fields: refused, skipped, or a site.
-use crate::fields::Coordinate;
 use crate::fields::Fields;
+use crate::fields::Measure;
 use crate::fields::Name;
 use crate::fields::Reach;
+use crate::settings::Settings;
+use crate::settings::Unreadable;
 use numbers::Number;
+use refusals::Axis;
+use refusals::Label;
+use refusals::Quantity;
+use refusals::Reason;
 ghost use mathlib.Core.Path.{_≡_};
-ghost use Rattle.rows.specs.Rules.{tooLong, named, occupied, axisOf, located, reached, rowOf};
+ghost use Rattle.rows.specs.Rules.{tooLong, named, unread, occupied, coordinateOf, located, reached, rowOf};
 
 pub struct Point3 {
     pub x: f64,
     pub y: f64,
     pub z: f64,
-}
-
-// Why a row is refused; document 01's number and detail of each is `numberOf` and `detailOf` in specs/Refusals.
-pub enum Refusal {
-    ColumnMissing(u8),
-    RowShort,
-    OutsideGrammar(u8),
-    BeyondReach(u8),
-    NameTooLong(u8),
 }
 
 // What a row says of one atom.
@@ -37,14 +34,14 @@ pub struct Site {
 }
 
 pub enum Row {
-    Refused(Refusal),
+    Refused(Reason),
     Skipped,
     Kept(Site),
 }
 
 // One of a position's three numbers, or why the row is refused for it.
-pub enum Axis {
-    Refused(Refusal),
+pub enum Coordinate {
+    Refused(Reason),
     Value(f64),
 }
 
@@ -62,13 +59,13 @@ fn named_row(f: Fields, position: Point3, occupancy: f64, assumed: bool) -> Row
     let residue = f.residue;
     let chain = f.chain;
     if too_long(atom) {
-        return Row::Refused(Refusal::NameTooLong(1));
+        return Row::Refused(Reason::NameTooLong(Label::Atom));
     }
     if too_long(residue) {
-        return Row::Refused(Refusal::NameTooLong(2));
+        return Row::Refused(Reason::NameTooLong(Label::Residue));
     }
     if too_long(chain) {
-        return Row::Refused(Refusal::NameTooLong(3));
+        return Row::Refused(Reason::NameTooLong(Label::Chain));
     }
     Row::Kept(Site {
         chain: chain.packed,
@@ -84,74 +81,84 @@ fn named_row(f: Fields, position: Point3, occupancy: f64, assumed: bool) -> Row
     })
 }
 
+// An occupancy outside the grammar.
+fn unread_row(unreadable: Unreadable, f: Fields, position: Point3) -> Row
+    ensures { λ r. ⌜ r ≡ unread unreadable (named f position) ⌝ }
+{
+    match unreadable {
+        Unreadable::Assumed => named_row(f, position, 1.0, true),
+    }
+}
+
 // Step 6.
-fn occupied_row(f: Fields, position: Point3) -> Row
-    ensures { λ r. ⌜ r ≡ occupied f position ⌝ }
+fn occupied_row(settings: Settings, f: Fields, position: Point3) -> Row
+    ensures { λ r. ⌜ r ≡ occupied settings f position ⌝ }
 {
     let occupancy = f.occupancy;
+    let unreadable = settings.occupancy;
     match occupancy {
-        Coordinate::Missing => named_row(f, position, 1.0, true),
-        Coordinate::Given(n) => match n {
-            Number::OutsideGrammar => named_row(f, position, 1.0, true),
-            Number::BeyondReach => Row::Refused(Refusal::BeyondReach(4)),
+        Measure::Missing => named_row(f, position, 1.0, true),
+        Measure::Given(n) => match n {
+            Number::OutsideGrammar => unread_row(unreadable, f, position),
+            Number::BeyondReach => Row::Refused(Reason::BeyondReach(Quantity::Occupancy)),
             Number::Value(v) => named_row(f, position, v, false),
         },
     }
 }
 
-fn axis_of(k: u8, n: Number) -> Axis
-    ensures { λ r. ⌜ r ≡ axisOf k n ⌝ }
+fn coordinate_of(axis: Axis, n: Number) -> Coordinate
+    ensures { λ r. ⌜ r ≡ coordinateOf axis n ⌝ }
 {
     match n {
-        Number::OutsideGrammar => Axis::Refused(Refusal::OutsideGrammar(k)),
-        Number::BeyondReach => Axis::Refused(Refusal::BeyondReach(k)),
-        Number::Value(v) => Axis::Value(v),
+        Number::OutsideGrammar => Coordinate::Refused(Reason::OutsideGrammar(axis)),
+        Number::BeyondReach => Coordinate::Refused(Reason::BeyondReach(Quantity::Coordinate(axis))),
+        Number::Value(v) => Coordinate::Value(v),
     }
 }
 
 // Step 5.
-fn located_row(f: Fields, x: Number, y: Number, z: Number) -> Row
-    ensures { λ r. ⌜ r ≡ located f x y z ⌝ }
+fn located_row(settings: Settings, f: Fields, x: Number, y: Number, z: Number) -> Row
+    ensures { λ r. ⌜ r ≡ located settings f x y z ⌝ }
 {
-    match axis_of(1, x) {
-        Axis::Refused(refusal) => Row::Refused(refusal),
-        Axis::Value(x) => match axis_of(2, y) {
-            Axis::Refused(refusal) => Row::Refused(refusal),
-            Axis::Value(y) => match axis_of(3, z) {
-                Axis::Refused(refusal) => Row::Refused(refusal),
-                Axis::Value(z) => occupied_row(f, Point3 { x, y, z }),
+    match coordinate_of(Axis::X, x) {
+        Coordinate::Refused(why) => Row::Refused(why),
+        Coordinate::Value(x) => match coordinate_of(Axis::Y, y) {
+            Coordinate::Refused(why) => Row::Refused(why),
+            Coordinate::Value(y) => match coordinate_of(Axis::Z, z) {
+                Coordinate::Refused(why) => Row::Refused(why),
+                Coordinate::Value(z) => occupied_row(settings, f, Point3 { x, y, z }),
             },
         },
     }
 }
 
 // Step 4.
-fn reached_row(f: Fields) -> Row
-    ensures { λ r. ⌜ r ≡ reached f ⌝ }
+fn reached_row(settings: Settings, f: Fields) -> Row
+    ensures { λ r. ⌜ r ≡ reached settings f ⌝ }
 {
     let x = f.x;
     let y = f.y;
     let z = f.z;
     match x {
-        Coordinate::Missing => Row::Skipped,
-        Coordinate::Given(x) => match y {
-            Coordinate::Missing => Row::Skipped,
-            Coordinate::Given(y) => match z {
-                Coordinate::Missing => Row::Skipped,
-                Coordinate::Given(z) => located_row(f, x, y, z),
+        Measure::Missing => Row::Skipped,
+        Measure::Given(x) => match y {
+            Measure::Missing => Row::Skipped,
+            Measure::Given(y) => match z {
+                Measure::Missing => Row::Skipped,
+                Measure::Given(z) => located_row(settings, f, x, y, z),
             },
         },
     }
 }
 
 // What becomes of a row: steps 1 to 3, and the others.
-pub fn row_of(f: Fields) -> Row
-    ensures { λ r. ⌜ r ≡ rowOf f ⌝ }
+pub fn row_of(settings: Settings, f: Fields) -> Row
+    ensures { λ r. ⌜ r ≡ rowOf settings f ⌝ }
 {
     let reach = f.reach;
     match reach {
-        Reach::ColumnMissing(k) => Row::Refused(Refusal::ColumnMissing(k)),
-        Reach::Short => Row::Refused(Refusal::RowShort),
-        Reach::Whole => reached_row(f),
+        Reach::ColumnMissing(column) => Row::Refused(Reason::ColumnMissing(column)),
+        Reach::Short => Row::Refused(Reason::RowShort),
+        Reach::Whole => reached_row(settings, f),
     }
 }

@@ -12,7 +12,7 @@ use Rattle.names.specs.declared.table.Resolved.the-variants.{Standard, Unresolv
 use Rattle.names.specs.Packing.{packedIn, packed}
 use Rattle.names.specs.Table.{canonical, aliases, resolveIn, resolveOf}
 use Rattle.tokens.specs.Quote.{has, allPlain, quoteOf}
-use Rattle.words.specs.Sequence.{sequenceOf}
+use Rattle.token_values.specs.Sequence.{sequenceOf}
 use Rattle.tokens.specs.Tokens.{scan, tokensOf}
 use Rattle.tokens.specs.Trim.{trimStart, trimEnd}
 

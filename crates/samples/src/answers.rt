@@ -8,7 +8,7 @@ use crate::say::say_value;
 use crate::texts::put_atoms;
 use building::Counts;
 use reader::Answer;
-use taking::Refusal;
+use refusals::Refusal;
 
 // What is said of the records besides the answer.
 pub(crate) enum Word {
@@ -40,12 +40,13 @@ fn say_counts(counts: Counts) {
 }
 
 fn say_refusal(why: Refusal) {
+    let reason = why.reason;
     say(b"refused ");
-    say_count(why.number() as usize);
+    say_count(reason.number() as usize);
     say(b" line ");
-    say_count(why.line());
+    say_count(why.line);
     say(b" detail ");
-    say_count(why.detail());
+    say_count(reason.detail());
 }
 
 fn say_answer(answer: Answer) {

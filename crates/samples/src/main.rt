@@ -8,7 +8,7 @@ mod names_read;
 mod numbers_read;
 mod readings;
 mod records_cleared;
-mod refusals;
+mod refused;
 mod rows_read;
 mod say;
 mod shortest;
@@ -23,7 +23,7 @@ fn main() {
     names_read::show_all();
     coordinates_read::show_all();
     columns_missing::show_all();
-    refusals::show_all();
+    refused::show_all();
     rows_read::show_all();
     shortest::show_all();
     records_cleared::show_all();

@@ -65,6 +65,7 @@ pub(crate) fn read(text: &[u8]) -> Reading {
         &mut elements,
         &mut positions,
         &mut occupancies,
+        rows::assuming(),
     );
     let rest_is_zero = are_zero(
         &chains,

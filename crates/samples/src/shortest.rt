@@ -53,6 +53,7 @@ fn read(text: &[u8], shortest: usize) -> Answer {
         &mut elements[0..n8],
         &mut positions[0..n9],
         &mut occupancies[0..n10],
+        rows::assuming(),
     )
 }
 

@@ -1,6 +1,8 @@
-// The service through C conventions: the exported functions, and what they tell in a lent result.
-mod calls;
-mod results;
+// Text in, text out, over lent records: what the program and the host call share.
+mod answers;
+mod own;
+mod serving;
 
-pub use calls::structure_intake;
-pub use calls::structure_intake_lent;
+pub use answers::Answer;
+pub use own::serve_own;
+pub use serving::serve;

@@ -1,3 +1,6 @@
-// The reader and the writer through C conventions, for the programs that run them beside the Rust.
+// The reader and the writer over lent records, the chain list among them as a slice of chain records.
 mod reading;
 mod writing;
+
+pub use reading::read;
+pub use writing::write_structure;

@@ -1,78 +1,97 @@
-// The reader through C conventions: what it answers in ten numbers, and the model in the slices.
-use building::Counts;
+// `read`: any bytes in; the model in the lent slices, or a refusal.
 use chains::Chain;
+use chains::Names;
+use chains::no_names;
+use chains::store_names;
 use reader::Answer;
-use records::store_u64;
-ghost use mathlib.Core.Path.{_≡_};
-ghost use lib.Seq.{sets};
-ghost use Rattle.chains.specs.Names.{namesAt};
+use rows::Settings;
+ghost use Prim.Native.Nat.{_≤_};
+ghost use lib.ListN.{length};
+ghost use Rattle.chains.specs.Names.{firstAt, namesAt};
 ghost use Rattle.model.specs.Lent.{lentBy};
-ghost use Rattle.structures.specs.Readings.{numberIn, lineIn, detailIn, countsIn, numbersOf, ReadInto};
+ghost use Rattle.reader.specs.Closing.{ReadBy};
 
-fn number_in(answer: Answer) -> u8
-    ensures { λ r. ⌜ r ≡ numberIn answer ⌝ }
+// The reading by names, in the first so many. The names come as a slice: the borrow checker covers a part of one, and no part of a lent array.
+fn read_first(
+    text: &[u8],
+    names: &mut [u64],
+    size: usize,
+    residue_keys: &mut [u64],
+    residue_names: &mut [u64],
+    residue_codes: &mut [u8],
+    residue_categories: &mut [u8],
+    residue_positions: &mut [u8],
+    atom_keys: &mut [u64],
+    atom_names: &mut [u64],
+    elements: &mut [u8],
+    positions: &mut [[f64; 3]],
+    occupancies: &mut [f64],
+    settings: Settings,
+) -> Answer
+    requires { ⌜ size ≤ length (now names) ⌝ }
+    ensures { λ r. ⌜ (let l = lentBy (firstAt size names) «residue_keys» «residue_names» «residue_codes» «residue_categories» «residue_positions»
+        «atom_keys» «atom_names» elements positions occupancies in
+        ReadBy settings (l .entry) (now (text .entry)) r (l .exit)) ⌝ }
 {
-    match answer {
-        Answer::Read(_) => 0,
-        Answer::Refused(why) => why.number(),
-    }
+    reader::read_by_names(
+        text,
+        &mut names[0..size],
+        residue_keys,
+        residue_names,
+        residue_codes,
+        residue_categories,
+        residue_positions,
+        atom_keys,
+        atom_names,
+        elements,
+        positions,
+        occupancies,
+        settings,
+    )
 }
 
-fn line_in(answer: Answer) -> usize
-    ensures { λ r. ⌜ r ≡ lineIn answer ⌝ }
+// The same in an array of 4,096: of a longer chain list a model uses no more records.
+fn read_into(
+    text: &[u8],
+    names: &mut Names,
+    size: usize,
+    residue_keys: &mut [u64],
+    residue_names: &mut [u64],
+    residue_codes: &mut [u8],
+    residue_categories: &mut [u8],
+    residue_positions: &mut [u8],
+    atom_keys: &mut [u64],
+    atom_names: &mut [u64],
+    elements: &mut [u8],
+    positions: &mut [[f64; 3]],
+    occupancies: &mut [f64],
+    settings: Settings,
+) -> Answer
+    ensures { λ r. ⌜ (let l = lentBy (firstAt size names) «residue_keys» «residue_names» «residue_codes» «residue_categories» «residue_positions»
+        «atom_keys» «atom_names» elements positions occupancies in
+        ReadBy settings (l .entry) (now (text .entry)) r (l .exit)) ⌝ }
 {
-    match answer {
-        Answer::Read(_) => 0,
-        Answer::Refused(why) => why.line(),
-    }
+    let size = chains::kept(size);
+    read_first(
+        text,
+        names,
+        size,
+        residue_keys,
+        residue_names,
+        residue_codes,
+        residue_categories,
+        residue_positions,
+        atom_keys,
+        atom_names,
+        elements,
+        positions,
+        occupancies,
+        settings,
+    )
 }
 
-fn detail_in(answer: Answer) -> usize
-    ensures { λ r. ⌜ r ≡ detailIn answer ⌝ }
-{
-    match answer {
-        Answer::Read(_) => 0,
-        Answer::Refused(why) => why.detail(),
-    }
-}
-
-fn counts_in(answer: Answer) -> Counts
-    ensures { λ r. ⌜ r ≡ countsIn answer ⌝ }
-{
-    match answer {
-        Answer::Read(counts) => counts,
-        Answer::Refused(_) => Counts {
-            chains: 0,
-            residues: 0,
-            atoms: 0,
-            rows: 0,
-            skipped: 0,
-            outdone: 0,
-            assumed: 0,
-        },
-    }
-}
-
-fn put_numbers(numbers: &mut [u64], answer: Answer)
-    ensures { λ _. ⌜ now (numbers .exit) ≡ sets (now (numbers .entry)) 0 (numbersOf answer) ⌝ }
-{
-    let counts = counts_in(answer);
-    store_u64(numbers, 0, number_in(answer) as u64);
-    store_u64(numbers, 1, line_in(answer) as u64);
-    store_u64(numbers, 2, detail_in(answer) as u64);
-    store_u64(numbers, 3, counts.chains as u64);
-    store_u64(numbers, 4, counts.residues as u64);
-    store_u64(numbers, 5, counts.atoms as u64);
-    store_u64(numbers, 6, counts.rows as u64);
-    store_u64(numbers, 7, counts.skipped as u64);
-    store_u64(numbers, 8, counts.outdone as u64);
-    store_u64(numbers, 9, counts.assumed as u64);
-}
-
-// Number, line and detail of a refusal, then chains, residues, atoms, rows, skipped, outdone and assumed; zeros for what there is none of.
-#[no_mangle]
-pub extern "C" fn probe_read(
-    numbers: &mut [u64],
+// While the text is read the names of the chains stand in an array, in which they are looked for; then they go into the records.
+pub fn read(
     text: &[u8],
     chains: &mut [Chain],
     residue_keys: &mut [u64],
@@ -85,13 +104,17 @@ pub extern "C" fn probe_read(
     elements: &mut [u8],
     positions: &mut [[f64; 3]],
     occupancies: &mut [f64],
-)
-    ensures { λ _. ⌜ (let l = lentBy (namesAt chains) «residue_keys» «residue_names» «residue_codes» «residue_categories» «residue_positions» «atom_keys» «atom_names» elements positions occupancies in
-        ReadInto (l .entry) (now (text .entry)) (now (numbers .entry)) (now (numbers .exit)) (l .exit)) ⌝ }
+    settings: Settings,
+) -> Answer
+    ensures { λ r. ⌜ (let l = lentBy (namesAt chains) «residue_keys» «residue_names» «residue_codes» «residue_categories» «residue_positions» «atom_keys» «atom_names» elements positions occupancies in
+        ReadBy settings (l .entry) (now (text .entry)) r (l .exit)) ⌝ }
 {
-    let answer = lent::read(
+    let mut names = no_names();
+    let size = chains.len();
+    let answer = read_into(
         text,
-        chains,
+        &mut names,
+        size,
         residue_keys,
         residue_names,
         residue_codes,
@@ -102,6 +125,8 @@ pub extern "C" fn probe_read(
         elements,
         positions,
         occupancies,
+        settings,
     );
-    put_numbers(numbers, answer);
+    store_names(chains, &names, size);
+    answer
 }

@@ -1,52 +1,62 @@
-// The writer through C conventions: what it answers in three numbers, and the text in the buffer.
+// `write_structure`: the text of the model in the lent slices, or a refusal.
 use chains::Chain;
-use records::store_u64;
+use chains::Names;
+use chains::no_names;
+use chains::take_names;
+use model::Room;
 use writer::Answer;
-ghost use mathlib.Core.Path.{_≡_};
-ghost use lib.Seq.{sets};
-ghost use Rattle.chains.specs.Names.{namesAt};
+ghost use Rattle.chains.specs.Names.{firstAt, namesAt};
 ghost use Rattle.model.specs.Lent.{lentBy};
-ghost use Rattle.structures.specs.Writings.{numberIn, detailIn, writtenIn, numbersOf, WrittenInto};
+ghost use Rattle.writer.specs.Writing.{writeOf, Writes};
 
-fn number_in(answer: Answer) -> u8
-    ensures { λ r. ⌜ r ≡ numberIn answer ⌝ }
+// The writing by names, for a chain list of so many records: of a longer one a model uses the first 4,096.
+fn write_from(
+    names: &Names,
+    size: usize,
+    residue_keys: &[u64],
+    residue_names: &[u64],
+    residue_codes: &[u8],
+    residue_categories: &[u8],
+    residue_positions: &[u8],
+    atom_keys: &[u64],
+    atom_names: &[u64],
+    elements: &[u8],
+    positions: &[[f64; 3]],
+    occupancies: &[f64],
+    chain_count: usize,
+    residue_count: usize,
+    atom_count: usize,
+    out: &mut [u8],
+) -> Answer
+    ensures { λ r. ⌜ (let l = lentBy (firstAt size names) «residue_keys» «residue_names» «residue_codes» «residue_categories» «residue_positions»
+        «atom_keys» «atom_names» elements positions occupancies .entry in
+        Writes out (writeOf l (record { chains = «chain_count»; residues = «residue_count»; atoms = «atom_count» })) r) ⌝ }
 {
-    match answer {
-        Answer::Written(_) => 0,
-        Answer::Refused(why) => why.number(),
-    }
+    let size = chains::kept(size);
+    let all: &[u64] = names;
+    writer::write_by_names(
+        &all[0..size],
+        residue_keys,
+        residue_names,
+        residue_codes,
+        residue_categories,
+        residue_positions,
+        atom_keys,
+        atom_names,
+        elements,
+        positions,
+        occupancies,
+        Room {
+            chains: chain_count,
+            residues: residue_count,
+            atoms: atom_count,
+        },
+        out,
+    )
 }
 
-fn detail_in(answer: Answer) -> usize
-    ensures { λ r. ⌜ r ≡ detailIn answer ⌝ }
-{
-    match answer {
-        Answer::Written(_) => 0,
-        Answer::Refused(why) => why.detail(),
-    }
-}
-
-fn written_in(answer: Answer) -> usize
-    ensures { λ r. ⌜ r ≡ writtenIn answer ⌝ }
-{
-    match answer {
-        Answer::Written(n) => n,
-        Answer::Refused(_) => 0,
-    }
-}
-
-fn put_numbers(numbers: &mut [u64], answer: Answer)
-    ensures { λ _. ⌜ now (numbers .exit) ≡ sets (now (numbers .entry)) 0 (numbersOf answer) ⌝ }
-{
-    store_u64(numbers, 0, number_in(answer) as u64);
-    store_u64(numbers, 1, detail_in(answer) as u64);
-    store_u64(numbers, 2, written_in(answer) as u64);
-}
-
-// Number and detail of a refusal, and how many bytes were written; zeros for what there is none of.
-#[no_mangle]
-pub extern "C" fn probe_write(
-    numbers: &mut [u64],
+// The names are taken out of the chain records, and written from there.
+pub fn write_structure(
     chains: &[Chain],
     residue_keys: &[u64],
     residue_names: &[u64],
@@ -62,12 +72,16 @@ pub extern "C" fn probe_write(
     residue_count: usize,
     atom_count: usize,
     out: &mut [u8],
-)
-    ensures { λ _. ⌜ (let l = lentBy (namesAt chains) «residue_keys» «residue_names» «residue_codes» «residue_categories» «residue_positions» «atom_keys» «atom_names» elements positions occupancies .entry in
-        WrittenInto l «chain_count» «residue_count» «atom_count» (now (out .entry)) (now (numbers .entry)) (now (out .exit)) (now (numbers .exit))) ⌝ }
+) -> Answer
+    ensures { λ r. ⌜ (let l = lentBy (namesAt chains) «residue_keys» «residue_names» «residue_codes» «residue_categories» «residue_positions»
+        «atom_keys» «atom_names» elements positions occupancies .entry in
+        Writes out (writeOf l (record { chains = «chain_count»; residues = «residue_count»; atoms = «atom_count» })) r) ⌝ }
 {
-    let answer = lent::write_structure(
-        chains,
+    let mut names = no_names();
+    take_names(chains, &mut names);
+    write_from(
+        &names,
+        chains.len(),
         residue_keys,
         residue_names,
         residue_codes,
@@ -82,6 +96,5 @@ pub extern "C" fn probe_write(
         residue_count,
         atom_count,
         out,
-    );
-    put_numbers(numbers, answer);
+    )
 }

@@ -13,7 +13,7 @@ use Rattle.names.specs.Places.{ascends}
 use Rattle.model.specs.declared.classes.Class.{Class}
 use Rattle.model.specs.Lists.{any, All}
 use Rattle.model.specs.Records.{ResidueRecord, AtomRecord}
-use Rattle.model.specs.Walks.{lessers, aloneIn}
+use Rattle.model.specs.Neighbours.{lessers, aloneIn}
 use Rattle.ascii.specs.Lists.{every}
 use Rattle.model.specs.WellFormed.{sameList, runsAfter, runsOf, classWell}
 use Rattle.model.proofs.AscendingLaws.{ascends-all}

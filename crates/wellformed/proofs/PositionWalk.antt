@@ -12,7 +12,7 @@ use Rattle.names.specs.Positions.{positionCode}
 use Rattle.model.specs.Keys.{chainPart}
 use Rattle.model.specs.Records.{ResidueRecord}
 use Rattle.model.specs.Termini.{positionBy, isFirst, isLast, ruledPosition}
-use Rattle.model.specs.Walks.{metWith, metIn, endsChain, positionBetween}
+use Rattle.model.specs.Neighbours.{metWith, metIn, endsChain, positionBetween}
 use Rattle.ascii.specs.Lists.{every}
 use Rattle.model.proofs.TerminiLaws.{first-is, last-is}
 use Rattle.wellformed.specs.Walks.{Standing, standsFrom}

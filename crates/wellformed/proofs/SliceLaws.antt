@@ -6,8 +6,8 @@ use Prim.Native.Nat.{ℕ, zero, suc, _-_, _≤_, _<_}
 use native.Mathlib.Omega.{arith}
 use lib.ListN.{length, getD, take, drop, drop-of-length-le}
 use lib.Seq.{drop-cons, length-take-le, getD-take}
-use Rattle.records.specs.Places.{pairs}
-use Rattle.records.proofs.PairLaws.{length-first-pairs, first-pairs-at}
+use Rattle.field_slices.specs.Places.{pairs}
+use Rattle.field_slices.proofs.PairLaws.{length-first-pairs, first-pairs-at}
 use Rattle.model.specs.Lent.{listFrom}
 use Rattle.ascii.specs.Lists.{every}
 use Rattle.wellformed.specs.Slices.{entries}

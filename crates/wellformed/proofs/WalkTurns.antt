@@ -6,9 +6,9 @@ use Prim.Native.Nat.{ℕ, _+_, _≤_, _<_}
 use lib.Dec.{eqb}
 use lib.ListN.{length, getD, take, drop}
 use borrow.Author.Tests.{eq-eqb, ne-eqb}
-use Rattle.records.specs.Places.{pairs}
+use Rattle.field_slices.specs.Places.{pairs}
 use Rattle.model.specs.declared.classes.Class.{Class}
-use Rattle.model.specs.Walks.{lessers, aloneIn, metWith, positionBetween}
+use Rattle.model.specs.Neighbours.{lessers, aloneIn, metWith, positionBetween}
 use Rattle.wellformed.specs.Slices.{standingIn}
 use Rattle.wellformed.specs.Walks.{isClassed, classedFrom, Standing, standsFrom}
 use Rattle.wellformed.proofs.FromLaws.{rest, rest-turn, rest-end}

@@ -8,7 +8,7 @@ use lib.ListN.{length, getD, take}
 use Rattle.ascii.specs.Bytes.{bytes}
 use Rattle.names.specs.Packing.{packed}
 use Rattle.names.specs.Places.{ascends}
-use Rattle.records.specs.Clearing.{zeroPoint}
+use Rattle.field_slices.specs.Clearing.{zeroPoint}
 use Rattle.model.specs.declared.room.Room.{Room}
 use Rattle.model.specs.declared.classes.Class.{Class}
 use Rattle.model.specs.Keys.{atomPlace, chainPart, codePart}

@@ -6,7 +6,7 @@ use lib.Dec.{eqb}
 use lib.ListN.{drop}
 use Rattle.model.specs.declared.classes.Class.{Class}
 use Rattle.model.specs.Classes.{classOf}
-use Rattle.model.specs.Walks.{lessers, aloneIn, metWith, positionBetween}
+use Rattle.model.specs.Neighbours.{lessers, aloneIn, metWith, positionBetween}
 
 -- ---- classes
 

@@ -86,7 +86,8 @@ pub(crate) fn in_runs(
     atom_count: usize,
 ) -> bool
     requires { ⌜ («residue_count» ≤ length (now «residue_keys»)) × («atom_count» ≤ length (now «atom_keys»)) ⌝ }
-    ensures { λ r. ⌜ r ≡ (chainsRun (now («residue_keys» .entry)) «chain_count» «residue_count» && residuesRun (now («residue_keys» .entry)) (now («atom_keys» .entry)) «residue_count» «atom_count») ⌝ }
+    ensures { λ r. ⌜ r ≡ (chainsRun (now («residue_keys» .entry)) «chain_count» «residue_count»
+        && residuesRun (now («residue_keys» .entry)) (now («atom_keys» .entry)) «residue_count» «atom_count») ⌝ }
 {
     if !chains_run(residue_keys, chain_count, residue_count) {
         return false;

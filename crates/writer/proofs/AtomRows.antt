@@ -10,8 +10,8 @@ use Rattle.model.specs.Termini.{isPolymer}
 use Rattle.model.specs.WellFormed.{wellFormedIn}
 use Rattle.model.specs.declared.room.Room.{Room}
 use Rattle.writer.specs.Text.{entityOf, atomRowOf}
-use Rattle.writer.specs.Walking.{rowBy}
-use Rattle.writer.specs.declared.walking.Walk.{Walk}
+use Rattle.writer.specs.PolymerNumbers.{rowBy}
+use Rattle.writer.specs.declared.polymer_numbers.Walk.{Walk}
 use Rattle.writer.proofs.ModelWalk.{walkedOn, Walked, walk-residue, walk-number}
 
 module _ (l : Lent) (counts : Room) (well : wellFormedIn l counts ≡ true) (i : ℕ) (h : i < counts .atoms) (w : Walk) (before : Walked l (counts .residues) (counts .atoms) i w) where

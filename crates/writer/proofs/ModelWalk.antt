@@ -14,8 +14,8 @@ use Rattle.model.specs.WellFormed.{wellFormedIn}
 use Rattle.model.specs.declared.room.Room.{Room}
 use Rattle.wellformed.specs.Slices.{entries}
 use Rattle.writer.specs.Text.{numberIn, residueFor}
-use Rattle.writer.specs.Walking.{numberAfter, enteredAt, begun, walkedTo}
-use Rattle.writer.specs.declared.walking.Walk.{Walk}
+use Rattle.writer.specs.PolymerNumbers.{numberAfter, enteredAt, begun, walkedTo}
+use Rattle.writer.specs.declared.polymer_numbers.Walk.{Walk}
 use Rattle.writer.proofs.NumberWalk.{none-numbered, number-goes}
 use Rattle.writer.proofs.ResiduesByIndex.{residue-is, number-fewer}
 use Rattle.writer.proofs.RunWalk.{StandsIn, stands-first, stands-still, stands-next}

@@ -16,7 +16,7 @@ use Rattle.model.specs.TakenOut.{residueOut}
 use Rattle.model.specs.Termini.{isPolymer}
 use Rattle.model.specs.declared.taken_out.Residue.{Residue}
 use Rattle.writer.specs.Text.{numberIn}
-use Rattle.writer.specs.Walking.{numberAfter, polymerBy}
+use Rattle.writer.specs.PolymerNumbers.{numberAfter, polymerBy}
 use Rattle.writer.proofs.ResiduesByIndex.{number-at-first, number-at-next, number-fewer}
 use Rattle.writer.proofs.RowsJoined.{polymerRow}
 

@@ -10,8 +10,8 @@ use Rattle.tokens.specs.Line.{spaced}
 use Rattle.model.specs.Lists.{any}
 use Rattle.model.specs.Records.{ResidueRecord, Model}
 use Rattle.model.specs.Termini.{isPolymer}
-use Rattle.texts.specs.Rows.{polymerFields, polymerText}
-use Rattle.texts.specs.declared.loop_rows.PolymerRow.{PolymerRow}
+use Rattle.row_texts.specs.Rows.{polymerFields, polymerText}
+use Rattle.row_texts.specs.declared.loop_rows.PolymerRow.{PolymerRow}
 use Rattle.writer.specs.Text.{linesText, closing, polymerHeaders, polymerRowOf, polymerRows, polymerList}
 
 row-some : (row : PolymerRow) → 0 < length (polymerText row)

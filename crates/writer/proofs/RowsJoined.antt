@@ -9,7 +9,7 @@ use lib.ListN.{length}
 use Rattle.model.specs.Lent.{listFrom}
 use Rattle.model.specs.Records.{ResidueRecord, AtomRecord, Model}
 use Rattle.model.specs.Termini.{isPolymer}
-use Rattle.texts.specs.Rows.{atomText, polymerText}
+use Rattle.row_texts.specs.Rows.{atomText, polymerText}
 use Rattle.writer.specs.Text.{atomRowOf, polymerRowOf, atomRows, polymerRows}
 use Rattle.writer.proofs.ListsByIndex.{from-split, from-length}
 

@@ -21,10 +21,10 @@ use Rattle.model.specs.Records.{ResidueRecord, AtomRecord, Model}
 use Rattle.model.specs.Termini.{isPolymer}
 use Rattle.model.specs.WellFormed.{wellFormedIn}
 use Rattle.model.specs.declared.room.Room.{Room}
-use Rattle.texts.specs.Fields.{decimalOf, sequenceText, nameText, symbolText, codeText, groupText, numberText, coordinateText}
-use Rattle.texts.specs.Rows.{atomFields, polymerFields, atomText, polymerText}
-use Rattle.texts.specs.declared.loop_rows.AtomRow.{AtomRow}
-use Rattle.texts.specs.declared.loop_rows.PolymerRow.{PolymerRow}
+use Rattle.row_texts.specs.Fields.{decimalOf, sequenceText, nameText, symbolText, codeText, groupText, numberText, coordinateText}
+use Rattle.row_texts.specs.Rows.{atomFields, polymerFields, atomText, polymerText}
+use Rattle.row_texts.specs.declared.loop_rows.AtomRow.{AtomRow}
+use Rattle.row_texts.specs.declared.loop_rows.PolymerRow.{PolymerRow}
 use Rattle.writer.specs.Text as text
 use Rattle.writer.specs.Text.{linesText, opening, closing, polymerHeaders, atomHeaders, atomRowOf, polymerRowOf, atomRows, polymerRows, polymerList}
 use Rattle.writer.proofs.ListsByIndex.{from-length}

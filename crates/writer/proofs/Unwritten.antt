@@ -13,8 +13,8 @@ use Rattle.model.specs.declared.taken_out.Residue.{Residue}
 use Rattle.model.specs.declared.room.Room.{Room}
 use Rattle.wellformed.proofs.FromLaws.{rest, rest-all, rest-turn, rest-end}
 use Rattle.writer.specs.Unwritable.{holdsBothQuotes, isUnwritableCode, isUnwritable, firstUnwritable, unwritableIn}
-use Rattle.writer.specs.Walking.{unwritableBy}
-use Rattle.writer.specs.declared.walking.Walk.{Walk}
+use Rattle.writer.specs.PolymerNumbers.{unwritableBy}
+use Rattle.writer.specs.declared.polymer_numbers.Walk.{Walk}
 use Rattle.writer.proofs.ModelWalk.{walkedOn, Walked, walk-residue}
 
 module _ (l : Lent) (counts : Room) where

@@ -6,6 +6,8 @@ use Prim.Native.Nat.{ℕ, zero, suc, _≤_, _<_}
 use lib.ListN.{length}
 use lib.Seq.{sets}
 use borrow.Author.Tests.{le-leb, lt-leb}
+use Rattle.refusals.specs.declared.reasons.Reason.{Reason}
+use Rattle.refusals.specs.declared.reasons.Reason.the-variants.{NotWellFormed, CannotBeWritten, OutputTooShort}
 use Rattle.model.specs.Lent.{Lent, modelIn}
 use Rattle.model.specs.Records.{Model}
 use Rattle.model.specs.WellFormed.{wellFormedIn}
@@ -14,11 +16,9 @@ use Rattle.writer.specs.Text.{textOf}
 use Rattle.writer.specs.Unwritable.{unwritableIn}
 use Rattle.writer.specs.Writing.{Writing, written, refused, fitted, writtenBut, writingOf, writeOf, Wrote}
 use Rattle.writer.specs.declared.answers.Answer.{Answer}
-use Rattle.writer.specs.declared.refusals.Refusal.{Refusal}
-use Rattle.writer.specs.declared.refusals.Refusal.the-variants.{NotWellFormed, Unwritable, OutputTooShort}
 
 -- a writing refused leaves the buffer as it was
-refuses : (out : List ℕ) (writing : Writing) (why : Refusal) → writing ≡ refused why → Wrote out writing (Answer.Refused why) out
+refuses : (out : List ℕ) (writing : Writing) (why : Reason) → writing ≡ refused why → Wrote out writing (Answer.Refused why) out
 refuses out writing why e = subst (λ (w : Writing). Wrote out w (Answer.Refused why) out) (sym e) (record { answered = refl; left = refl })
 
 -- ---- 14
@@ -37,10 +37,10 @@ module _ (out text : List ℕ) where
 
 -- ---- 13
 module _ (out : List ℕ) (m : Model) (atom : ℕ) (is : atom ≡ unwritableIn m) where
-  pub unwritable : (atom ≡ 0 → ⊥) → Wrote out (writingOf (length out) m) (Answer.Refused (Unwritable atom)) out
-  unwritable h = refuses out (writingOf (length out) m) (Unwritable atom) (ap (λ (n : ℕ). writtenBut n (length out) m) (sym is) ∙ go atom h)
+  pub unwritable : (atom ≡ 0 → ⊥) → Wrote out (writingOf (length out) m) (Answer.Refused (CannotBeWritten atom)) out
+  unwritable h = refuses out (writingOf (length out) m) (CannotBeWritten atom) (ap (λ (n : ℕ). writtenBut n (length out) m) (sym is) ∙ go atom h)
     where
-      go : (n : ℕ) → (n ≡ 0 → ⊥) → writtenBut n (length out) m ≡ refused (Unwritable n)
+      go : (n : ℕ) → (n ≡ 0 → ⊥) → writtenBut n (length out) m ≡ refused (CannotBeWritten n)
       go zero h = absurd (h refl)
       go (suc n) h = refl
 

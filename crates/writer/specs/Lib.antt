@@ -1,5 +1,4 @@
-pub mod Refusals
 pub mod Text
 pub mod Unwritable
-pub mod Walking
+pub mod PolymerNumbers
 pub mod Writing

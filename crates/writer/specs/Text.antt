@@ -9,9 +9,9 @@ use Rattle.model.specs.Keys.{chainPart, sequencePart, codePart}
 use Rattle.model.specs.Lists.{filter}
 use Rattle.model.specs.Records.{ResidueRecord, AtomRecord, Model}
 use Rattle.model.specs.Termini.{isPolymer}
-use Rattle.texts.specs.Rows.{atomText, polymerText, lineText}
-use Rattle.texts.specs.declared.loop_rows.AtomRow.{AtomRow}
-use Rattle.texts.specs.declared.loop_rows.PolymerRow.{PolymerRow}
+use Rattle.row_texts.specs.Rows.{atomText, polymerText, lineText}
+use Rattle.row_texts.specs.declared.loop_rows.AtomRow.{AtomRow}
+use Rattle.row_texts.specs.declared.loop_rows.PolymerRow.{PolymerRow}
 
 -- lines, one after the other
 unfoldable pub linesText : List (List ℕ) → List ℕ

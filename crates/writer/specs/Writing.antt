@@ -7,7 +7,9 @@ use lib.Dec.{leb}
 use lib.ListN.{length}
 use lib.Seq.{sets}
 use denote.Ref.{now}
-use Rattle.records.specs.Slice.{Slice}
+use Rattle.refusals.specs.declared.reasons.Reason.{Reason}
+use Rattle.refusals.specs.declared.reasons.Reason.the-variants.{NotWellFormed, CannotBeWritten, OutputTooShort}
+use Rattle.field_slices.specs.Slice.{Slice}
 use Rattle.model.specs.Lent.{Lent, modelIn}
 use Rattle.model.specs.Records.{Model}
 use Rattle.model.specs.WellFormed.{wellFormedIn}
@@ -15,12 +17,10 @@ use Rattle.model.specs.declared.room.Room.{Room}
 use Rattle.writer.specs.Text.{textOf}
 use Rattle.writer.specs.Unwritable.{unwritableIn}
 use Rattle.writer.specs.declared.answers.Answer.{Answer}
-use Rattle.writer.specs.declared.refusals.Refusal.{Refusal}
-use Rattle.writer.specs.declared.refusals.Refusal.the-variants.{NotWellFormed, Unwritable, OutputTooShort}
 
 pub data Writing : Type 0 where
   written : List ℕ → Writing
-  refused : Refusal → Writing
+  refused : Reason → Writing
 
 -- 14: what the text needs, in a buffer of so many bytes
 abbrev pub fitted : ℕ → List ℕ → Writing
@@ -29,7 +29,7 @@ fitted size text = cond (leb (length text) size) (written text) (refused (Output
 -- 13
 abbrev pub writtenBut : ℕ → ℕ → Model → Writing
 writtenBut zero size m = fitted size (textOf m)
-writtenBut (suc id) size m = refused (Unwritable (suc id))
+writtenBut (suc id) size m = refused (CannotBeWritten (suc id))
 
 -- the text of a model that is well formed
 abbrev pub writingOf : ℕ → Model → Writing

@@ -1,9 +1,9 @@
 // What a writing answers.
-use crate::refusals::Refusal;
+use refusals::Reason;
 
 pub enum Answer {
     // How many bytes were written.
     Written(usize),
     // No byte was.
-    Refused(Refusal),
+    Refused(Reason),
 }

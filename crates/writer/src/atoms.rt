@@ -1,9 +1,9 @@
 // The atom loop: a row for each atom.
 use crate::chains::chain_name;
 use crate::headers::put_atom_headers;
-use crate::walking::Walk;
-use crate::walking::begin_walk;
-use crate::walking::walk_to;
+use crate::polymer_numbers::Walk;
+use crate::polymer_numbers::begin_walk;
+use crate::polymer_numbers::walk_to;
 use model::Atom;
 use model::Room;
 use model::atom_at;
@@ -11,18 +11,18 @@ use model::chain_part;
 use model::code_part;
 use model::is_polymer;
 use model::sequence_part;
-use texts::AtomRow;
-use texts::put_atom_row;
-use texts::put_word;
+use row_texts::AtomRow;
+use row_texts::put_atom_row;
+use row_texts::put_word;
 ghost use mathlib.Core.Path.{_≡_};
 ghost use mathlib.Core.Bool.{true};
 ghost use Prim.Native.Nat.{_≤_};
 ghost use lib.ListN.{length, take};
 ghost use Rattle.model.specs.Lent.{passed, lent, modelIn};
 ghost use Rattle.model.specs.WellFormed.{wellFormedIn};
-ghost use Rattle.texts.specs.Emitted.{Emits};
+ghost use Rattle.row_texts.specs.Emitted.{Emits};
 ghost use Rattle.writer.specs.Text.{atomLoop};
-ghost use Rattle.writer.specs.Walking.{rowBy, atomsOf};
+ghost use Rattle.writer.specs.PolymerNumbers.{rowBy, atomsOf};
 
 // The row of an atom in the residue where the walk stands.
 fn atom_row(chains: &[u64], chain_count: usize, id: u64, atom: Atom, walk: Walk) -> AtomRow
@@ -63,7 +63,8 @@ fn put_atom_rows(
     occupancies: &[f64],
     counts: Room,
 ) -> usize
-    requires { ⌜ wellFormedIn (passed chains «residue_keys» «residue_names» «residue_codes» «residue_categories» «residue_positions» «atom_keys» «atom_names» elements positions occupancies) counts ≡ true ⌝ }
+    requires { ⌜ wellFormedIn (passed chains «residue_keys» «residue_names» «residue_codes» «residue_categories» «residue_positions»
+        «atom_keys» «atom_names» elements positions occupancies) counts ≡ true ⌝ }
     ensures { λ r. ⌜ (let l = lent chains «residue_keys» «residue_names» «residue_codes» «residue_categories» «residue_positions» «atom_keys» «atom_names» elements positions occupancies .entry in
         Emits out at (atomsOf (modelIn l counts)) r) ⌝ }
 {
@@ -110,7 +111,8 @@ pub(crate) fn put_atom_loop(
     occupancies: &[f64],
     counts: Room,
 ) -> usize
-    requires { ⌜ wellFormedIn (passed chains «residue_keys» «residue_names» «residue_codes» «residue_categories» «residue_positions» «atom_keys» «atom_names» elements positions occupancies) counts ≡ true ⌝ }
+    requires { ⌜ wellFormedIn (passed chains «residue_keys» «residue_names» «residue_codes» «residue_categories» «residue_positions»
+        «atom_keys» «atom_names» elements positions occupancies) counts ≡ true ⌝ }
     ensures { λ r. ⌜ (let l = lent chains «residue_keys» «residue_names» «residue_codes» «residue_categories» «residue_positions» «atom_keys» «atom_names» elements positions occupancies .entry in
         Emits out at (atomLoop (atomsOf (modelIn l counts))) r) ⌝ }
 {

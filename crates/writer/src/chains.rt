@@ -1,6 +1,6 @@
 // The chain of an atom or a residue.
+use field_slices::u64_at;
 use model::chain_part;
-use records::u64_at;
 ghost use mathlib.Core.Path.{_≡_};
 ghost use Prim.Native.Nat.{_≤_};
 ghost use lib.ListN.{length, getD, take};

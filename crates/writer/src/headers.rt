@@ -1,6 +1,6 @@
 // The lines in front of the rows.
-use texts::put_word;
-ghost use Rattle.texts.specs.Emitted.{Emits};
+use row_texts::put_word;
+ghost use Rattle.row_texts.specs.Emitted.{Emits};
 ghost use Rattle.writer.specs.Text.{linesText, opening, polymerHeaders, atomHeaders};
 
 pub(crate) fn put_opening(out: &mut [u8], at: usize) -> usize

@@ -3,12 +3,10 @@ mod answers;
 mod atoms;
 mod chains;
 mod headers;
+mod polymer_numbers;
 mod polymers;
-mod refusals;
 mod unwritable;
-mod walking;
 mod writing;
 
 pub use answers::Answer;
-pub use refusals::Refusal;
 pub use writing::write_by_names;

@@ -1,23 +1,23 @@
 // The polymer list: a row for each polymer residue; "omitted when empty".
 use crate::headers::put_polymer_headers;
-use crate::walking::number_after;
+use crate::polymer_numbers::number_after;
 use ascii::byte_at;
 use model::Residue;
 use model::is_polymer;
 use model::residue_at;
-use texts::PolymerRow;
-use texts::put_polymer_row;
-use texts::put_word;
+use row_texts::PolymerRow;
+use row_texts::put_polymer_row;
+use row_texts::put_word;
 ghost use mathlib.Core.Path.{_≡_};
 ghost use mathlib.Core.Bool.{true};
 ghost use Prim.Native.Nat.{_+_, _^_, _≤_, _<_};
 ghost use Rattle.model.specs.Lent.{listFrom, residueFrom};
 ghost use Rattle.model.specs.Lists.{any};
 ghost use Rattle.model.specs.Termini.{isPolymer};
-ghost use Rattle.texts.specs.Emitted.{Emits};
+ghost use Rattle.row_texts.specs.Emitted.{Emits};
 ghost use Rattle.wellformed.specs.Slices.{entries, residuesAscend};
 ghost use Rattle.writer.specs.Text.{polymerList};
-ghost use Rattle.writer.specs.Walking.{polymerBy, polymersOf};
+ghost use Rattle.writer.specs.PolymerNumbers.{polymerBy, polymersOf};
 
 fn has_polymers(codes: &[u8], n: usize) -> bool
     ensures { λ r. ⌜ r ≡ any isPolymer (listFrom (entries (now (codes .entry))) 0 n) ⌝ }
@@ -86,7 +86,8 @@ pub(crate) fn put_polymer_list(
     n: usize,
 ) -> usize
     requires { ⌜ (residuesAscend (now keys) n ≡ true) × (n ≤ 65536) ⌝ }
-    ensures { λ r. ⌜ Emits out at (polymerList (polymersOf (listFrom (residueFrom (now (keys .entry)) (now (names .entry)) (now (codes .entry)) (now (categories .entry)) (now (positions .entry))) 0 n))) r ⌝ }
+    ensures { λ r. ⌜ Emits out at (polymerList (polymersOf (listFrom (residueFrom (now (keys .entry)) (now (names .entry)) (now (codes .entry)) (now
+        (categories .entry)) (now (positions .entry))) 0 n))) r ⌝ }
 {
     if !has_polymers(codes, n) {
         return at;

@@ -1,8 +1,8 @@
 // What no text can hold: refusal 13.
 use crate::chains::chain_name;
-use crate::walking::Walk;
-use crate::walking::begin_walk;
-use crate::walking::walk_to;
+use crate::polymer_numbers::Walk;
+use crate::polymer_numbers::begin_walk;
+use crate::polymer_numbers::walk_to;
 use model::Atom;
 use model::Room;
 use model::atom_at;
@@ -18,7 +18,7 @@ ghost use Rattle.tokens.specs.Quote.{has};
 ghost use Rattle.model.specs.Lent.{passed, lent, modelIn};
 ghost use Rattle.model.specs.WellFormed.{wellFormedIn};
 ghost use Rattle.writer.specs.Unwritable.{holdsBothQuotes, isUnwritableCode, unwritableIn};
-ghost use Rattle.writer.specs.Walking.{unwritableBy};
+ghost use Rattle.writer.specs.PolymerNumbers.{unwritableBy};
 
 // Whether a byte stands in a name: each turn passes the first byte of what is left.
 fn holds(name: u64, b: u8) -> bool
@@ -86,7 +86,8 @@ pub(crate) fn first_unwritable(
     occupancies: &[f64],
     counts: Room,
 ) -> usize
-    requires { ⌜ wellFormedIn (passed chains «residue_keys» «residue_names» «residue_codes» «residue_categories» «residue_positions» «atom_keys» «atom_names» elements positions occupancies) counts ≡ true ⌝ }
+    requires { ⌜ wellFormedIn (passed chains «residue_keys» «residue_names» «residue_codes» «residue_categories» «residue_positions»
+        «atom_keys» «atom_names» elements positions occupancies) counts ≡ true ⌝ }
     ensures { λ r. ⌜ (let l = lent chains «residue_keys» «residue_names» «residue_codes» «residue_categories» «residue_positions» «atom_keys» «atom_names» elements positions occupancies .entry in
         r ≡ unwritableIn (modelIn l counts)) ⌝ }
 {

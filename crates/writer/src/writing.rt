@@ -3,15 +3,15 @@ use crate::answers::Answer;
 use crate::atoms::put_atom_loop;
 use crate::headers::put_opening;
 use crate::polymers::put_polymer_list;
-use crate::refusals::Refusal;
 use crate::unwritable::first_unwritable;
 use model::Room;
+use refusals::Reason;
 use wellformed::is_well_formed;
 ghost use mathlib.Core.Path.{_≡_};
 ghost use mathlib.Core.Bool.{true};
 ghost use Rattle.model.specs.Lent.{passed, lent, modelIn};
 ghost use Rattle.model.specs.WellFormed.{wellFormedIn};
-ghost use Rattle.texts.specs.Emitted.{Emits};
+ghost use Rattle.row_texts.specs.Emitted.{Emits};
 ghost use Rattle.writer.specs.Text.{textOf};
 ghost use Rattle.writer.specs.Writing.{fitted, writingOf, writeOf, Writes};
 
@@ -31,7 +31,8 @@ fn put_text(
     occupancies: &[f64],
     counts: Room,
 ) -> usize
-    requires { ⌜ wellFormedIn (passed chains «residue_keys» «residue_names» «residue_codes» «residue_categories» «residue_positions» «atom_keys» «atom_names» elements positions occupancies) counts ≡ true ⌝ }
+    requires { ⌜ wellFormedIn (passed chains «residue_keys» «residue_names» «residue_codes» «residue_categories» «residue_positions»
+        «atom_keys» «atom_names» elements positions occupancies) counts ≡ true ⌝ }
     ensures { λ r. ⌜ (let l = lent chains «residue_keys» «residue_names» «residue_codes» «residue_categories» «residue_positions» «atom_keys» «atom_names» elements positions occupancies .entry in
         Emits out 0 (textOf (modelIn l counts)) r) ⌝ }
 {
@@ -80,7 +81,8 @@ fn write_fitting(
     occupancies: &[f64],
     counts: Room,
 ) -> Answer
-    requires { ⌜ wellFormedIn (passed chains «residue_keys» «residue_names» «residue_codes» «residue_categories» «residue_positions» «atom_keys» «atom_names» elements positions occupancies) counts ≡ true ⌝ }
+    requires { ⌜ wellFormedIn (passed chains «residue_keys» «residue_names» «residue_codes» «residue_categories» «residue_positions»
+        «atom_keys» «atom_names» elements positions occupancies) counts ≡ true ⌝ }
     ensures { λ r. ⌜ (let l = lent chains «residue_keys» «residue_names» «residue_codes» «residue_categories» «residue_positions» «atom_keys» «atom_names» elements positions occupancies .entry in
         Writes out (λ size. fitted size (textOf (modelIn l counts))) r) ⌝ }
 {
@@ -100,7 +102,7 @@ fn write_fitting(
         counts,
     );
     if out.len() < needed {
-        return Answer::Refused(Refusal::OutputTooShort { needed });
+        return Answer::Refused(Reason::OutputTooShort { needed });
     }
     let end = put_text(
         out,
@@ -136,7 +138,8 @@ fn write_writable(
     occupancies: &[f64],
     counts: Room,
 ) -> Answer
-    requires { ⌜ wellFormedIn (passed chains «residue_keys» «residue_names» «residue_codes» «residue_categories» «residue_positions» «atom_keys» «atom_names» elements positions occupancies) counts ≡ true ⌝ }
+    requires { ⌜ wellFormedIn (passed chains «residue_keys» «residue_names» «residue_codes» «residue_categories» «residue_positions»
+        «atom_keys» «atom_names» elements positions occupancies) counts ≡ true ⌝ }
     ensures { λ r. ⌜ (let l = lent chains «residue_keys» «residue_names» «residue_codes» «residue_categories» «residue_positions» «atom_keys» «atom_names» elements positions occupancies .entry in
         Writes out (λ size. writingOf size (modelIn l counts)) r) ⌝ }
 {
@@ -155,7 +158,7 @@ fn write_writable(
         counts,
     );
     if atom != 0 {
-        return Answer::Refused(Refusal::Unwritable { atom });
+        return Answer::Refused(Reason::CannotBeWritten { atom });
     }
     write_fitting(
         out,
@@ -207,7 +210,7 @@ pub fn write_by_names(
         occupancies,
         counts,
     ) {
-        return Answer::Refused(Refusal::NotWellFormed);
+        return Answer::Refused(Reason::NotWellFormed);
     }
     write_writable(
         out,

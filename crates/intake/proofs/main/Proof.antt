@@ -1,6 +1,6 @@
 -- What is served fits the buffer, so that it is a part of it.
 use native.Mathlib.Omega.{arith}
-use Rattle.serving.proofs.ServedFits.{own-fits}
+use Rattle.service.proofs.ServedFits.{own-fits}
 use borrow.Author.Needs.{needs}
 use Rattle.intake.proofs.main.Statement.{statement}
 use Rattle.intake.proofs.main.Tie as tie
@@ -32,6 +32,9 @@ part-serve-own-end c = search needs
 slice-aggregate-serve-own : tie.Need-slice-aggregate-serve-own
 slice-aggregate-serve-own c = search needs
 
+assuming-requires : tie.Need-assuming-requires
+assuming-requires c κs = search needs
+
 serve-own-requires : tie.Need-serve-own-requires
 serve-own-requires c κs = search needs
 
@@ -55,9 +58,6 @@ enum-known-answer-2 c = search needs
 
 number-requires : tie.Need-number-requires
 number-requires c κs = search needs
-
-line-requires : tie.Need-line-requires
-line-requires c κs = search needs
 
 detail-requires : tie.Need-detail-requires
 detail-requires c κs = search needs
@@ -84,6 +84,7 @@ main-spec =
     part-serve-own-start
     part-serve-own-end
     slice-aggregate-serve-own
+    assuming-requires
     serve-own-requires
     enum-known-answer
     sub-text
@@ -92,7 +93,6 @@ main-spec =
     text-requires
     enum-known-answer-2
     number-requires
-    line-requires
     detail-requires
     refused-requires-2
     returns-2

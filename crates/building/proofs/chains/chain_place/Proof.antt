@@ -6,7 +6,7 @@ use native.Mathlib.Omega.{arith}
 use lib.ListN.{length, take, length-take}
 use lib.Seq.{getD-take}
 use borrow.Author.Needs.{needs}
-use Rattle.records.proofs.PairLaws.{first-counted}
+use Rattle.field_slices.proofs.PairLaws.{first-counted}
 use Rattle.model.specs.Chains.{chainPlace}
 use Rattle.building.proofs.ChainLaws.{walk-end, walked, stands}
 use Rattle.building.proofs.chains.chain_place.Statement.{statement}

@@ -3,9 +3,9 @@ use mathlib.Core.Path.{subst}
 use Prim.Native.Nat.{ℕ, _+_, _≤_}
 use lib.Dec.{ltb}
 use lib.ListN.{length}
-use Rattle.gaps.specs.Gaps.{closed}
-use Rattle.records.specs.Places.{pairs, below}
-use Rattle.gaps.specs.Spots.{Spotted}
+use Rattle.gapped_slices.specs.Gaps.{closed}
+use Rattle.field_slices.specs.Places.{pairs, below}
+use Rattle.gapped_slices.specs.Spots.{Spotted}
 use borrow.Author.Needs.{needs}
 use Rattle.building.proofs.sites.places_of.Statement.{statement}
 use Rattle.building.proofs.sites.places_of.Tie as tie

@@ -1,8 +1,8 @@
 -- What lacks the room is what the model lacks, and else what is stored is the model's next step.
 use mathlib.Core.Path.{_≡_, refl, sym, _∙_, subst}
-use native.Mathlib.Omega.{arith}
 use Rattle.model.specs.Fold.{step}
 use Rattle.model.specs.Taken.{site}
+use Rattle.model.specs.declared.room.Lack.the-variants.{Nothing}
 use Rattle.building.specs.declared.held.Held.{Held}
 use Rattle.building.specs.Gaps.{HoldsApart}
 use Rattle.building.specs.Holds.{Records, recordsOf}
@@ -26,6 +26,9 @@ places-of-requires c κs = search needs
 lack-of-requires : tie.Need-lack-of-requires
 lack-of-requires c κs = search needs
 
+enum-known-lack : tie.Need-enum-known-lack
+enum-known-lack c = search needs
+
 same-length : tie.Need-same-length
 same-length c = search needs
 
@@ -40,9 +43,15 @@ same-length-4 c = search needs
 
 returns : tie.Need-returns
 returns c =
-    let a = c .before .before .before .before .before .before .before .before .before .before .before .before .before .before .before .before .args in
-    let q = c .before .before .before .places-of in
-    (refl {a = entry (c .before .before .before .before .before .before .before .before .before .before .before .before .before .before .before .before)}, c .if1 .taken, λ st h w. sym (lack-is (entry (c .before .before .before .before .before .before .before .before .before .before .before .before .before .before .before .before)) (a .room) (a .held) (a .site) (q .result) (q .ensures) st h w) ∙ sym (c .before .lack-of .ensures))
+    let start = c .before .before .before .before .before .before .before .before .before .before .before .before .before .before .before .before .before .before in
+    let a = start .args in
+    let q = c .before .before .before .before .before .places-of in (
+      refl {a = entry start},
+      λ st h w. sym (lack-is (entry start) (a .room) (a .held) (a .site) (q .result) (q .ensures) st h w) ∙ sym (c .before .before .before .lack-of .ensures) ∙ c .before .lack .given .1,
+    )
+
+enum-told : tie.Need-enum-told
+enum-told c = search needs
 
 store-site-requires : tie.Need-store-site-requires
 store-site-requires c κs = search needs
@@ -79,18 +88,18 @@ same-length-13 c = search needs
 
 returns-2 : tie.Need-returns-2
 returns-2 c =
-    let a = c .before .before .before .before .before .before .before .before .before .before .before .before .before .before .before .before .before .before .before .before .before .before .before .before .before .before .before .before .before .before .before .before .before .before .before .before .before .before .before .before .before .before .before .before .args in
-    let q = c .before .before .before .before .before .before .before .before .before .before .before .before .before .before .before .before .before .before .before .before .before .before .before .before .before .before .before .before .before .before .before .places-of in
-    let r = entry (c .before .before .before .before .before .before .before .before .before .before .before .before .before .before .before .before .before .before .before .before .before .before .before .before .before .before .before .before .before .before .before .before .before .before .before .before .before .before .before .before .before .before .before .before) in
-    let lack = c .before .before .before .before .before .before .before .before .before .before .before .before .before .before .before .before .before .before .before .before .before .before .before .before .before .before .before .before .before .lack-of in
-    let none : lack .result ≡ 0 = omega (arith, c .before .before .before .before .before .before .before .before .before .before .before .before .before .before .before .before .before .before .before .before .before .before .before .before .before .before .before .before .if1 .left) in
-    let roomy : lackOf (a .room) (a .held .counts) (q .result) ≡ 0 = sym (lack .ensures) ∙ none in
-    let stored = c .before .before .before .before .before .before .before .before .before .before .before .before .before .before .before .before .before .before .store-site .ensures in (
-      lengths-stay {r = r} {after = left (c .before .before .before .before .before .before .before .before .before .before .before .before .before .before .before .before .before .before)} stored,
+    let start = c .before .before .before .before .before .before .before .before .before .before .before .before .before .before .before .before .before .before .before .before .before .before .before .before .before .before .before .before .before .before .before .before .before .before .before .before .before .before .before .before .before .before .before .before .before in
+    let a = start .args in
+    let q = c .before .before .before .before .before .before .before .before .before .before .before .before .before .before .before .before .before .before .before .before .before .before .before .before .before .before .before .before .before .before .before .before .places-of in
+    let r = entry start in
+    let roomy : lackOf (a .room) (a .held .counts) (q .result) ≡ Nothing = sym (c .before .before .before .before .before .before .before .before .before .before .before .before .before .before .before .before .before .before .before .before .before .before .before .before .before .before .before .before .before .before .lack-of .ensures) ∙ c .before .before .before .before .before .before .before .before .before .before .before .before .before .before .before .before .before .before .before .before .before .before .before .before .before .before .before .before .enum-told .given .1 in
+    let stored = c .before .before .before .before .before .before .before .before .before .before .before .before .before .before .before .before .before .before .store-site .ensures in
+    let after = left (c .before .before .before .before .before .before .before .before .before .before .before .before .before .before .before .before .before .before) in (
+      lengths-stay {r = r} {after = after} stored,
       λ st h w. (
         sym (lack-is r (a .room) (a .held) (a .site) (q .result) (q .ensures) st h w) ∙ roomy,
-        λ few. subst (λ (d : Held). HoldsApart (left (c .before .before .before .before .before .before .before .before .before .before .before .before .before .before .before .before .before .before)) (a .room) d (step st (site (a .site)))) (sym (c .held-with .ensures))
-            (site-held r (a .room) (a .held) (a .site) (q .result) (q .ensures) st h w roomy (left (c .before .before .before .before .before .before .before .before .before .before .before .before .before .before .before .before .before .before)) stored few),
+        λ few. subst (λ (d : Held). HoldsApart after (a .room) d (step st (site (a .site)))) (sym (c .held-with .ensures))
+            (site-held r (a .room) (a .held) (a .site) (q .result) (q .ensures) st h w roomy after stored few),
       ),
     )
 
@@ -100,11 +109,13 @@ put-site-spec =
     (tie.spec
     places-of-requires
     lack-of-requires
+    enum-known-lack
     same-length
     same-length-2
     same-length-3
     same-length-4
     returns
+    enum-told
     store-site-requires
     held-with-requires
     same-length-5

@@ -53,20 +53,20 @@ use Rattle.chains.proofs.NamesInMemory.{Names, scaled}
 use Rattle.chains.proofs.NameLaws.{named-none, named-turn, named-all, length-named}
 use Rattle.chains.proofs.chain.Chain as T
 use Rattle.chains.proofs.chain.Chain.Laws as T′
-use Rattle.walks.proofs.Answered.{answers}
-use Rattle.walks.proofs.Asked.{asked, counted}
-use Rattle.walks.proofs.CountedLoop.{word, Upto, once-more, counts-up}
-use Rattle.walks.proofs.GivenUp.{gave-all, gave-ends, gave-meets}
-use Rattle.walks.proofs.Handed.{hands}
-use Rattle.walks.proofs.LetGo.{lets-go}
-use Rattle.walks.proofs.Returned.{Returned, told}
-use Rattle.walks.proofs.SliceCount.{takes-count}
-use Rattle.walks.proofs.SliceTells.{slice-tells}
-use Rattle.walks.proofs.Typed.{typed, count-typed}
-use Rattle.records.proofs.smaller as smaller
-use Rattle.records.proofs.smaller.Symbol as smaller-def
-use Rattle.records.proofs.smaller.Symbol.{name as #smaller}
-use Rattle.records.proofs.smaller.Met as smaller-thm
+use Rattle.hand_proofs.proofs.Answered.{answers}
+use Rattle.hand_proofs.proofs.Asked.{asked, counted}
+use Rattle.hand_proofs.proofs.CountedLoop.{word, Upto, once-more, counts-up}
+use Rattle.hand_proofs.proofs.GivenUp.{gave-all, gave-ends, gave-meets}
+use Rattle.hand_proofs.proofs.Handed.{hands}
+use Rattle.hand_proofs.proofs.LetGo.{lets-go}
+use Rattle.hand_proofs.proofs.Returned.{Returned, told}
+use Rattle.hand_proofs.proofs.SliceCount.{takes-count}
+use Rattle.hand_proofs.proofs.SliceTells.{slice-tells}
+use Rattle.hand_proofs.proofs.Typed.{typed, count-typed}
+use Rattle.field_slices.proofs.smaller as smaller
+use Rattle.field_slices.proofs.smaller.Symbol as smaller-def
+use Rattle.field_slices.proofs.smaller.Symbol.{name as #smaller}
+use Rattle.field_slices.proofs.smaller.Met as smaller-thm
 use Rattle.chains.proofs.names.name_at as name-at
 use Rattle.chains.proofs.names.name_at.Symbol as name-at-def
 use Rattle.chains.proofs.names.name_at.Symbol.{name as #name-at}
@@ -235,5 +235,5 @@ store-names-spec 𝓤 H 𝓜 𝓖 𝓡 =
     entered 𝓤 H (tripleOf 𝓤 H (𝓖 .A) store-names.signature (store-names.spec 𝓤 H (𝓖 .A) (𝓜 .mem) (𝓡 .run)))
     (tables 𝓤 H 𝓜 𝓡 code.env .C) (tables 𝓤 H 𝓜 𝓡 code.env .Λ) #store-names code.function (code.unfolded 𝓤 H 𝓜 𝓡)
     (store-names-meets 𝓤 H (𝓖 .A) (givenOf 𝓤 H 𝓜 𝓖) (𝓜 .mem) (𝓡 .run) (tablesOf 𝓤 H 𝓜 (tables 𝓤 H 𝓜 𝓡 code.env))
-    (cited 𝓤 H (Smaller 𝓤 H (𝓖 .A) (𝓜 .mem) (𝓡 .run)) 𝓜 𝓡 code.env #smaller smaller-def.routine code.calls-records·smaller (smaller-thm.met 𝓤 H 𝓜 𝓖 𝓡))
+    (cited 𝓤 H (Smaller 𝓤 H (𝓖 .A) (𝓜 .mem) (𝓡 .run)) 𝓜 𝓡 code.env #smaller smaller-def.routine code.calls-field-slices·smaller (smaller-thm.met 𝓤 H 𝓜 𝓖 𝓡))
     (cited 𝓤 H (NameAt 𝓤 H (𝓖 .A) (𝓜 .mem) (𝓡 .run)) 𝓜 𝓡 code.env #name-at name-at-def.routine code.calls-chains·names·name-at (name-at-thm.met 𝓤 H 𝓜 𝓖 𝓡)))

@@ -51,16 +51,16 @@ use Rattle.chains.proofs.NamesInMemory.{Names, scaled}
 use Rattle.chains.proofs.NameLaws.{taking, taking-none, taking-turn, taking-all, length-taking}
 use Rattle.chains.proofs.chain.Chain as T
 use Rattle.chains.proofs.chain.Chain.Laws as T′
-use Rattle.walks.proofs.Answered.{answers}
-use Rattle.walks.proofs.Asked.{asked, counted}
-use Rattle.walks.proofs.CountedLoop.{word, Upto, once-more, counts-up}
-use Rattle.walks.proofs.GivenUp.{gave-all, gave-ends, gave-meets}
-use Rattle.walks.proofs.Handed.{hands}
-use Rattle.walks.proofs.LetGo.{lets-go}
-use Rattle.walks.proofs.Returned.{Returned, told}
-use Rattle.walks.proofs.SliceCount.{takes-count}
-use Rattle.walks.proofs.SliceTells.{slice-tells}
-use Rattle.walks.proofs.Typed.{typed, count-typed}
+use Rattle.hand_proofs.proofs.Answered.{answers}
+use Rattle.hand_proofs.proofs.Asked.{asked, counted}
+use Rattle.hand_proofs.proofs.CountedLoop.{word, Upto, once-more, counts-up}
+use Rattle.hand_proofs.proofs.GivenUp.{gave-all, gave-ends, gave-meets}
+use Rattle.hand_proofs.proofs.Handed.{hands}
+use Rattle.hand_proofs.proofs.LetGo.{lets-go}
+use Rattle.hand_proofs.proofs.Returned.{Returned, told}
+use Rattle.hand_proofs.proofs.SliceCount.{takes-count}
+use Rattle.hand_proofs.proofs.SliceTells.{slice-tells}
+use Rattle.hand_proofs.proofs.Typed.{typed, count-typed}
 use Rattle.chains.proofs.names.kept as kept
 use Rattle.chains.proofs.names.kept.Symbol as kept-def
 use Rattle.chains.proofs.names.kept.Symbol.{name as #kept}

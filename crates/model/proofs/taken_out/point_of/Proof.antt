@@ -1,7 +1,7 @@
 -- Each of the three reads is inside the array, where it does not matter what stands for an entry past the end.
 use lib.Ieee.{nan}
-use Rattle.records.specs.Clearing.{zeroFloat}
-use Rattle.records.proofs.PlaceLaws.{getD-any}
+use Rattle.field_slices.specs.Clearing.{zeroFloat}
+use Rattle.field_slices.proofs.PlaceLaws.{getD-any}
 use borrow.Author.Needs.{needs}
 use Rattle.model.proofs.taken_out.point_of.Statement.{statement}
 use Rattle.model.proofs.taken_out.point_of.Tie as tie

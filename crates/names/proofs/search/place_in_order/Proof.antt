@@ -3,7 +3,7 @@ use mathlib.Core.Path.{sym, subst}
 use lib.Dec.{ltb}
 use lib.ListN.{length, take}
 use borrow.Author.Needs.{needs}
-use Rattle.records.specs.Places.{Found}
+use Rattle.field_slices.specs.Places.{Found}
 use Rattle.names.proofs.PlacesInOrder.{found-at, found-nowhere}
 use Rattle.names.proofs.search.place_in_order.Statement.{statement}
 use Rattle.names.proofs.search.place_in_order.Tie as tie

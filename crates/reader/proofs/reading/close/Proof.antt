@@ -1,12 +1,13 @@
 -- A refusal is told and all is cleared; else the finished model is left.
 use mathlib.Core.Path.{_≡_, sym, ap, _∙_, subst}
-use Rattle.states.specs.declared.heads.Heads.{Heads}
+use Rattle.line_states.specs.declared.heads.Heads.{Heads}
 use Rattle.model.specs.Lent.{Lent, roomOf}
 use Rattle.building.specs.Holds.{recordsIn}
+use Rattle.finishing.specs.Clearing.{clearedFrom}
 use Rattle.finishing.proofs.ClearingLaws.{all-cleared}
-use Rattle.taking.specs.Lines.{Progress}
-use Rattle.taking.specs.Standing.{Stands}
-use Rattle.taking.specs.declared.taking.Halt.{Halt}
+use Rattle.acts.specs.Lines.{Progress}
+use Rattle.acts.specs.Standing.{Stands}
+use Rattle.acts.specs.declared.reading_lines.Halt.{Halt}
 use Rattle.reader.specs.Reading.{answerOf, leftBy}
 use Rattle.reader.proofs.EndOfReading.{refused-stays, finished-ends}
 use borrow.Author.Needs.{needs}
@@ -37,6 +38,9 @@ halted-as t heads progress e s = subst (λ (h : Halt). Stands (roomOf (entry t))
 
 enum-known-halt : tie.Need-enum-known-halt
 enum-known-halt c = search needs
+
+no-records-requires : tie.Need-no-records-requires
+no-records-requires c κs = search needs
 
 clear-records-requires : tie.Need-clear-records-requires
 clear-records-requires c κs = search needs
@@ -85,12 +89,12 @@ same-length-11 c = c .before .occupancies .given
 
 returns : tie.Need-returns
 returns c =
-    let t = c .before .before .before .before .before .before .before .before .before .before .before .before .before .before .before .before .before .before .before .before .before .before .before .before .before .before .before .before .before .before .before .before .before .before .before .before .before .before .before .before .before .before .before .before .before .before in
+    let t = c .before .before .before .before .before .before .before .before .before .before .before .before .before .before .before .before .before .before .before .before .before .before .before .before .before .before .before .before .before .before .before .before .before .before .before .before .before .before .before .before .before .before .before .before .before .before .before in
     let l = entry t in
-    let known = c .before .before .before .before .before .before .before .before .before .before .before .before .before .before .before .before .before .before .before .before .before .before .before .before .before .before .before .before .before .before .before .before .before .before .halt .given in
+    let known = c .before .before .before .before .before .before .before .before .before .before .before .before .before .before .before .before .before .before .before .before .before .before .before .before .before .before .before .before .before .before .before .before .before .before .before .halt .given in
     λ heads progress s p.
     let end = refused-stays (roomOf l) (recordsIn l) heads (t .args .counts) _ progress (halted-as t heads progress (known .1) s) in
-    (sym (ap answerOf end), c .before .before .before .before .before .before .before .before .before .before .before .before .before .before .before .before .before .before .before .before .before .clear-records .ensures ∙ all-cleared l ∙ sym (ap (leftBy l) end))
+    (sym (ap answerOf end), c .before .before .before .before .before .before .before .before .before .before .before .before .before .before .before .before .before .before .before .before .before .clear-records .ensures ∙ ap (clearedFrom l) (c .before .before .before .before .before .before .before .before .before .before .before .before .before .before .before .before .before .before .before .before .before .before .no-records .ensures) ∙ all-cleared l ∙ sym (ap (leftBy l) end))
 
 same-length-12 : tie.Need-same-length-12
 same-length-12 c = c .before .before .before .before .before .before .before .before .before .before .before .before .before .before .before .before .before .before .before .before .before .chains2 .given
@@ -139,6 +143,7 @@ close-spec =
     tie.close
     (tie.spec
     enum-known-halt
+    no-records-requires
     clear-records-requires
     enum-told
     finish-model-requires

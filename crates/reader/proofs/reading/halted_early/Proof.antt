@@ -4,8 +4,9 @@ use mathlib.Core.Bool.{Bool, cond}
 use lib.ListN.{length}
 use borrow.Author.Tests.{lt-ltb, le-ltb}
 use Rattle.lines.specs.Domain.{outsideOf}
-use Rattle.taking.specs.declared.refusals.Refusal.the-variants.{TextTooLong}
-use Rattle.taking.specs.declared.taking.Halt.the-variants.{Refused}
+use Rattle.refusals.specs.Reasons.{at}
+use Rattle.refusals.specs.declared.reasons.Reason.the-variants.{TextTooLong}
+use Rattle.acts.specs.declared.reading_lines.Halt.the-variants.{Refused}
 use Rattle.reader.specs.Closing.{haltedBy, haltedEarly}
 use Rattle.reader.specs.Reading.{largest}
 use borrow.Author.Needs.{needs}
@@ -16,7 +17,7 @@ returns : tie.Need-returns
 unfolding haltedEarly
 returns c =
     let text = c .before .before .args .text .now in
-    sym (ap (λ (b : Bool). cond b (Refused TextTooLong) (haltedBy (outsideOf text))) (lt-ltb largest (length text) (c .if1 .taken)))
+    sym (ap (λ (b : Bool). cond b (Refused (at 0 TextTooLong)) (haltedBy (outsideOf text))) (lt-ltb largest (length text) (c .if1 .taken)))
 
 first-outside-requires : tie.Need-first-outside-requires
 first-outside-requires c κs = search needs
@@ -30,7 +31,7 @@ returns-2 c =
     let text = c .before .before .before .before .args .text .now in
     c .halted-by .ensures
     ∙ ap haltedBy (c .before .first-outside .ensures)
-    ∙ sym (ap (λ (b : Bool). cond b (Refused TextTooLong) (haltedBy (outsideOf text))) (le-ltb largest (length text) (c .before .before .if1 .left)))
+    ∙ sym (ap (λ (b : Bool). cond b (Refused (at 0 TextTooLong)) (haltedBy (outsideOf text))) (le-ltb largest (length text) (c .before .before .if1 .left)))
 
 pub halted-early-spec : {M : Type 1} → statement M
 halted-early-spec =

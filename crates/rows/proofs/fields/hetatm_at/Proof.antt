@@ -3,7 +3,7 @@ use mathlib.Core.Path.{ap, _∙_}
 use Prim.Native.Nat.{_<_}
 use native.Mathlib.Omega.{arith}
 use borrow.Author.Needs.{needs}
-use Rattle.words.specs.Words.{isHetatm}
+use Rattle.token_values.specs.Words.{isHetatm}
 use Rattle.rows.specs.Fields.{hetatmAt}
 use Rattle.rows.proofs.CaseLaws.{by-true, by-false}
 use Rattle.rows.proofs.CellLaws.{lent}

@@ -2,7 +2,7 @@
 use mathlib.Core.Path.{ap, _∙_}
 use Prim.Native.Nat.{ℕ}
 use borrow.Author.Needs.{needs}
-use Rattle.words.specs.Sequence.{sequenceOf}
+use Rattle.token_values.specs.Sequence.{sequenceOf}
 use Rattle.tokens.specs.Tokens.{tokenAt}
 use Rattle.rows.specs.Fields.{nameOf, chainOf, insertionCodeAt}
 use Rattle.rows.proofs.fields.labels_in.Statement.{statement}

@@ -3,27 +3,27 @@ use mathlib.Core.Path.{ap, _∙_}
 use Prim.Native.Nat.{ℕ}
 use borrow.Author.Needs.{needs}
 use Rattle.tokens.specs.Tokens.{tokenAt}
-use Rattle.rows.specs.Fields.{coordinateOf, occupancyAt}
+use Rattle.rows.specs.Fields.{measureOf, occupancyAt}
 use Rattle.rows.proofs.fields.numbers_in.Statement.{statement}
 use Rattle.rows.proofs.fields.numbers_in.Tie as tie
 
 x-requires : tie.Need-x-requires
 x-requires c κs = search needs
 
-coordinate-at-requires : tie.Need-coordinate-at-requires
-coordinate-at-requires c κs = search needs
+measure-at-requires : tie.Need-measure-at-requires
+measure-at-requires c κs = search needs
 
 y-requires : tie.Need-y-requires
 y-requires c κs = search needs
 
-coordinate-at-requires-2 : tie.Need-coordinate-at-requires-2
-coordinate-at-requires-2 c κs = search needs
+measure-at-requires-2 : tie.Need-measure-at-requires-2
+measure-at-requires-2 c κs = search needs
 
 z-requires : tie.Need-z-requires
 z-requires c κs = search needs
 
-coordinate-at-requires-3 : tie.Need-coordinate-at-requires-3
-coordinate-at-requires-3 c κs = search needs
+measure-at-requires-3 : tie.Need-measure-at-requires-3
+measure-at-requires-3 c κs = search needs
 
 occupancy-requires : tie.Need-occupancy-requires
 occupancy-requires c κs = search needs
@@ -37,9 +37,9 @@ returns c line held =
     let y = z .before .before in
     let x = y .before .before in
     λ i. record {
-      x = (x .coordinate-at .ensures line held ∙ ap (λ (k : ℕ). coordinateOf (tokenAt line k)) (x .before .x .ensures)) i;
-      y = (y .coordinate-at2 .ensures line held ∙ ap (λ (k : ℕ). coordinateOf (tokenAt line k)) (y .before .y .ensures)) i;
-      z = (z .coordinate-at3 .ensures line held ∙ ap (λ (k : ℕ). coordinateOf (tokenAt line k)) (z .before .z .ensures)) i;
+      x = (x .measure-at .ensures line held ∙ ap (λ (k : ℕ). measureOf (tokenAt line k)) (x .before .x .ensures)) i;
+      y = (y .measure-at2 .ensures line held ∙ ap (λ (k : ℕ). measureOf (tokenAt line k)) (y .before .y .ensures)) i;
+      z = (z .measure-at3 .ensures line held ∙ ap (λ (k : ℕ). measureOf (tokenAt line k)) (z .before .z .ensures)) i;
       occupancy = (c .occupancy-at .ensures line held ∙ ap (occupancyAt line) (c .before .occupancy .ensures)) i;
     }
 
@@ -48,11 +48,11 @@ numbers-in-spec =
     tie.close
     (tie.spec
     x-requires
-    coordinate-at-requires
+    measure-at-requires
     y-requires
-    coordinate-at-requires-2
+    measure-at-requires-2
     z-requires
-    coordinate-at-requires-3
+    measure-at-requires-3
     occupancy-requires
     occupancy-at-requires
     returns)

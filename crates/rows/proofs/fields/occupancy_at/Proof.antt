@@ -13,12 +13,12 @@ returns : tie.Need-returns
 unfolding occupancyAt
 returns c line held = by-true _ _ (c .before .is-absent .ensures) (c .if1 .taken)
 
-coordinate-at-requires : tie.Need-coordinate-at-requires
-coordinate-at-requires c κs = search needs
+measure-at-requires : tie.Need-measure-at-requires
+measure-at-requires c κs = search needs
 
 returns-2 : tie.Need-returns-2
 unfolding occupancyAt
-returns-2 c line held = c .coordinate-at .ensures line held ∙ by-false _ _ (c .before .before .is-absent .ensures) (c .before .if1 .left)
+returns-2 c line held = c .measure-at .ensures line held ∙ by-false _ _ (c .before .before .is-absent .ensures) (c .before .if1 .left)
 
 pub occupancy-at-spec : {M : Type 1} → statement M
-occupancy-at-spec = tie.close (tie.spec is-absent-requires returns coordinate-at-requires returns-2)
+occupancy-at-spec = tie.close (tie.spec is-absent-requires returns measure-at-requires returns-2)

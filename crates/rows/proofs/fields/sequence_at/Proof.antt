@@ -3,7 +3,7 @@ use mathlib.Core.Path.{ap, _∙_}
 use Prim.Native.Nat.{_<_}
 use native.Mathlib.Omega.{arith}
 use borrow.Author.Needs.{needs}
-use Rattle.words.specs.Sequence.{sequenceOf}
+use Rattle.token_values.specs.Sequence.{sequenceOf}
 use Rattle.rows.proofs.CellLaws.{lent}
 use Rattle.rows.proofs.fields.sequence_at.Statement.{statement}
 use Rattle.rows.proofs.fields.sequence_at.Tie as tie

@@ -2,14 +2,14 @@
 use mathlib.Core.Path.{_≡_, sym, _∙_}
 use borrow.Author.Needs.{needs}
 use Rattle.numbers.specs.declared.reading.Number.{Number}
-use Rattle.rows.specs.declared.fields.Coordinate.{Coordinate}
-use Rattle.rows.specs.declared.fields.Coordinate.the-variants.{Given}
+use Rattle.rows.specs.declared.fields.Measure.{Measure}
+use Rattle.rows.specs.declared.fields.Measure.the-variants.{Given}
 use Rattle.rows.specs.declared.rules.Row.{Row}
 use Rattle.rows.specs.Rules.{givenAll, located, reached}
 use Rattle.rows.proofs.rules.reached_row.Statement.{statement}
 use Rattle.rows.proofs.rules.reached_row.Tie as tie
 
-all-given : (row : Number → Number → Number → Row) {x y z : Coordinate} {a b d : Number} → x ≡ Given a → y ≡ Given b → z ≡ Given d → givenAll x y z row ≡ row a b d
+all-given : (row : Number → Number → Number → Row) {x y z : Measure} {a b d : Number} → x ≡ Given a → y ≡ Given b → z ≡ Given d → givenAll x y z row ≡ row a b d
 all-given row ex ey ez = rw (ex, ey, ez)
 
 enum-told : tie.Need-enum-told
@@ -47,7 +47,7 @@ returns-3 c = rw (c .before .before .before .before .before .before .x .given .1
 
 returns-4 : tie.Need-returns-4
 unfolding reached
-returns-4 c = c .located-row .ensures ∙ sym (all-given (located (c .before .before .before .before .before .before .before .before .before .before .args .f)) (c .before .before .before .before .before .before .before .before .x .given .1) (c .before .before .before .before .before .y .given .1) (c .before .before .z .given .1))
+returns-4 c = let a = c .before .before .before .before .before .before .before .before .before .before .args in c .located-row .ensures ∙ sym (all-given (located (a .settings) (a .f)) (c .before .before .before .before .before .before .before .before .x .given .1) (c .before .before .before .before .before .y .given .1) (c .before .before .z .given .1))
 
 pub reached-row-spec : {M : Type 1} → statement M
 reached-row-spec =

@@ -28,7 +28,7 @@ returns-2 c = rw (c .enum-told .given .1)
 
 returns-3 : tie.Need-returns-3
 unfolding rowOf
-returns-3 c = c .reached-row .ensures ∙ sym (ap (λ (r : Reach). byReach r (reached (c .before .before .before .args .f))) (c .before .enum-told2 .given .1))
+returns-3 c = let a = c .before .before .before .args in c .reached-row .ensures ∙ sym (ap (λ (r : Reach). byReach r (reached (a .settings) (a .f))) (c .before .enum-told2 .given .1))
 
 pub row-of-spec : {M : Type 1} → statement M
 row-of-spec =

@@ -5,8 +5,8 @@ use Prim.Native.Nat.{_-_}
 use native.Mathlib.Omega.{arith}
 use lib.ListN.{getD}
 use borrow.Author.Tests.{not-true, not-false}
-use Rattle.records.specs.Clearing.{zeroPoint}
-use Rattle.records.proofs.PlaceLaws.{getD-any}
+use Rattle.field_slices.specs.Clearing.{zeroPoint}
+use Rattle.field_slices.proofs.PlaceLaws.{getD-any}
 use Rattle.model.specs.Lent.{listFrom}
 use Rattle.ascii.specs.Lists.{every}
 use Rattle.wellformed.specs.Slices.{entries, isAtomWell}

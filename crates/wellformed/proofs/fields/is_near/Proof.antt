@@ -6,8 +6,8 @@ use lib.ListN.{getD}
 use lib.Ieee.{nan}
 use borrow.Author.Tests.{not-true, not-false}
 use Rattle.numbers.specs.Rounding.{printable}
-use Rattle.records.specs.Clearing.{zeroFloat}
-use Rattle.records.proofs.PlaceLaws.{getD-any}
+use Rattle.field_slices.specs.Clearing.{zeroFloat}
+use Rattle.field_slices.proofs.PlaceLaws.{getD-any}
 use borrow.Author.Needs.{needs}
 use Rattle.wellformed.proofs.fields.is_near.Statement.{statement}
 use Rattle.wellformed.proofs.fields.is_near.Tie as tie

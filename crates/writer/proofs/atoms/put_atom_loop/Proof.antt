@@ -1,5 +1,5 @@
 -- Headers, rows and `#` are put one after the other.
-use Rattle.texts.proofs.EmittedLaws.{then}
+use Rattle.row_texts.proofs.EmittedLaws.{then}
 use Rattle.writer.specs.Text.{linesText}
 use borrow.Author.Needs.{needs}
 use Rattle.writer.proofs.atoms.put_atom_loop.Statement.{statement}

@@ -10,12 +10,12 @@ use Rattle.model.specs.Records.{Model}
 use Rattle.model.specs.TakenOut.{atomOut}
 use Rattle.model.specs.WellFormed.{isNear}
 use Rattle.model.specs.declared.taken_out.Atom.{Atom}
-use Rattle.texts.specs.Emitted.{Emitted}
-use Rattle.texts.specs.Rows.{atomText}
-use Rattle.texts.specs.declared.loop_rows.AtomRow.{AtomRow}
-use Rattle.texts.proofs.EmittedLaws.{then}
+use Rattle.row_texts.specs.Emitted.{Emitted}
+use Rattle.row_texts.specs.Rows.{atomText}
+use Rattle.row_texts.specs.declared.loop_rows.AtomRow.{AtomRow}
+use Rattle.row_texts.proofs.EmittedLaws.{then}
 use Rattle.writer.specs.Text.{atomRowOf, atomRows}
-use Rattle.writer.specs.Walking.{walkedTo, rowBy}
+use Rattle.writer.specs.PolymerNumbers.{walkedTo, rowBy}
 use Rattle.writer.proofs.AtomRows.{row-is}
 use Rattle.writer.proofs.NothingEmitted.{nothing}
 use Rattle.writer.proofs.ModelWalk.{walkedOn, Walked, walk-begins, walk-goes, walk-can}

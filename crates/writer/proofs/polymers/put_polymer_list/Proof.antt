@@ -7,11 +7,11 @@ use Rattle.model.specs.Lent.{listFrom, residueFrom}
 use Rattle.model.specs.Lists.{any}
 use Rattle.model.specs.Records.{ResidueRecord}
 use Rattle.model.specs.Termini.{isPolymer}
-use Rattle.texts.specs.Emitted.{Emitted}
-use Rattle.texts.proofs.EmittedLaws.{then}
+use Rattle.row_texts.specs.Emitted.{Emitted}
+use Rattle.row_texts.proofs.EmittedLaws.{then}
 use Rattle.wellformed.proofs.SliceLaws.{map-from}
 use Rattle.writer.specs.Text.{linesText, polymerList}
-use Rattle.writer.specs.Walking.{polymersOf}
+use Rattle.writer.specs.PolymerNumbers.{polymersOf}
 use Rattle.writer.proofs.NothingEmitted.{nothing}
 use Rattle.writer.proofs.NumberWalk.{alone}
 use Rattle.writer.proofs.PolymerList.{rows-none, rows-some, list-some}

@@ -10,11 +10,11 @@ use Rattle.model.specs.Lent.{listFrom, residueFrom}
 use Rattle.model.specs.Records.{ResidueRecord}
 use Rattle.model.specs.TakenOut.{residueOut}
 use Rattle.model.specs.declared.taken_out.Residue.{Residue}
-use Rattle.texts.specs.Emitted.{Emitted}
-use Rattle.texts.proofs.EmittedLaws.{then}
+use Rattle.row_texts.specs.Emitted.{Emitted}
+use Rattle.row_texts.proofs.EmittedLaws.{then}
 use Rattle.wellformed.proofs.SliceLaws.{map-from}
 use Rattle.writer.specs.Text.{numberIn, polymerRows}
-use Rattle.writer.specs.Walking.{numberAfter}
+use Rattle.writer.specs.PolymerNumbers.{numberAfter}
 use Rattle.writer.proofs.NothingEmitted.{nothing}
 use Rattle.writer.proofs.NumberWalk.{Numbered, none-numbered, numbered, number-goes, number-few, alone, polymer-is}
 use Rattle.writer.proofs.RowsJoined.{polymers-more, no-polymers}

@@ -8,8 +8,8 @@ use Rattle.model.specs.Lent.{Lent, lentOf, residueIn, atomIn, modelIn}
 use Rattle.model.specs.TakenOut.{atomOut}
 use Rattle.model.specs.declared.taken_out.Atom.{Atom}
 use Rattle.writer.specs.Unwritable.{unwritableIn}
-use Rattle.writer.specs.Walking.{walkedTo, unwritableBy}
-use Rattle.writer.specs.declared.walking.Walk.{Walk}
+use Rattle.writer.specs.PolymerNumbers.{walkedTo, unwritableBy}
+use Rattle.writer.specs.declared.polymer_numbers.Walk.{Walk}
 use Rattle.writer.proofs.ModelWalk.{walkedOn, Walked, walk-begins, walk-goes, walk-can}
 use Rattle.writer.proofs.Unwritten.{leftFrom, seenAt, left-all, left-none, left-found, left-on}
 use Rattle.writer.proofs.WellFormedParts.{counted, few-atoms}

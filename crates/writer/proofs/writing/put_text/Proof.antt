@@ -4,8 +4,8 @@ use mathlib.Core.List.{List, _++_}
 use Prim.Native.Nat.{ℕ}
 use Rattle.model.specs.Lent.{Lent, lentOf, modelIn}
 use Rattle.model.specs.Records.{Model}
-use Rattle.texts.specs.Emitted.{Emitted}
-use Rattle.texts.proofs.EmittedLaws.{then}
+use Rattle.row_texts.specs.Emitted.{Emitted}
+use Rattle.row_texts.proofs.EmittedLaws.{then}
 use Rattle.writer.specs.Text.{linesText, opening, polymerList, atomLoop, atomRows, textOf}
 use Rattle.writer.proofs.RowsJoined.{polymers-by-residues}
 use Rattle.writer.proofs.WellFormedParts.{ascending, few-residues}

@@ -4,13 +4,13 @@ use mathlib.Core.List.{List, [], _∷_, _++_}
 use Prim.Native.Nat.{ℕ, _^_, _≤_, _<_}
 use native.Mathlib.Omega.{arith}
 use lib.ListN.{length}
+use Rattle.refusals.specs.declared.reasons.Reason.the-variants.{OutputTooShort}
 use Rattle.model.specs.Lent.{Lent, lentOf, modelIn}
 use Rattle.model.specs.Records.{Model}
-use Rattle.texts.specs.Emitted.{Emitted}
+use Rattle.row_texts.specs.Emitted.{Emitted}
 use Rattle.writer.specs.Text.{textOf}
 use Rattle.writer.specs.Writing.{fitted, Wrote}
 use Rattle.writer.specs.declared.answers.Answer.{Answer}
-use Rattle.writer.specs.declared.refusals.Refusal.the-variants.{OutputTooShort}
 use Rattle.writer.proofs.TextIsShort.{text-short}
 use Rattle.writer.proofs.WritingLaws.{too-short, all-written}
 use borrow.Author.Needs.{needs}

@@ -35,11 +35,11 @@ use denote.Triple.Entry.{Args, Vals, alive, onEntry}
 use denote.Triple.Spec.{Meets, tripleOf}
 use denote.Triple.Table.{entered, cited}
 use denote.Triple.Walked.{says, Stays, walkOf}
-use Rattle.walks.proofs.Asked.{asked}
-use Rattle.walks.proofs.GivenUp.{gave-all, gave-ends, gave-meets}
-use Rattle.walks.proofs.Handed.{hands}
-use Rattle.walks.proofs.LetGo.{lets-go}
-use Rattle.walks.proofs.Returned.{Returned, told}
+use Rattle.hand_proofs.proofs.Asked.{asked}
+use Rattle.hand_proofs.proofs.GivenUp.{gave-all, gave-ends, gave-meets}
+use Rattle.hand_proofs.proofs.Handed.{hands}
+use Rattle.hand_proofs.proofs.LetGo.{lets-go}
+use Rattle.hand_proofs.proofs.Returned.{Returned, told}
 use Rattle.lines.specs.Lines.{LineOrEnd}
 use Rattle.lines.specs.declared.lines.Line.{Line}
 use Rattle.lines.proofs.line_reader.LineReader as T

@@ -1,0 +1,31 @@
+-- A line too long is refused, and else what the states say decides.
+use mathlib.Core.Path.{sym, ap, _∙_}
+use lib.Seq.{take-all}
+use Rattle.tokens.specs.Longest.{longest}
+use Rattle.line_states.specs.States.{movedBy}
+use Rattle.acts.specs.Lines.{planBy}
+use Rattle.acts.proofs.PlanLaws.{plan-long, plan-within}
+use borrow.Author.Needs.{needs}
+use Rattle.acts.proofs.plans.plan_of.Statement.{statement}
+use Rattle.acts.proofs.plans.plan_of.Tie as tie
+
+returns : tie.Need-returns
+returns c = let a = c .before .before .args in sym (plan-long (a .settings) (a .heads) (a .line .now) (c .if1 .taken))
+
+read-line-requires : tie.Need-read-line-requires
+read-line-requires c κs = search needs
+
+act-by-requires : tie.Need-act-by-requires
+act-by-requires c κs = search needs
+
+returns-2 : tie.Need-returns-2
+returns-2 c =
+    let a = c .before .before .before .before .before .before .args in
+    let short = c .before .before .before .before .if1 .left in
+    let moved = c .before .before .before .read-line in
+    (λ i. record { heads = moved .result .heads; act = c .act-by .ensures i })
+    ∙ ap (planBy (a .settings) (a .line .now)) (moved .ensures ∙ ap (movedBy (a .heads)) (take-all longest (a .line .now) short))
+    ∙ sym (plan-within (a .settings) (a .heads) (a .line .now) short)
+
+pub plan-of-spec : {M : Type 1} → statement M
+plan-of-spec = tie.close (tie.spec returns read-line-requires act-by-requires returns-2)

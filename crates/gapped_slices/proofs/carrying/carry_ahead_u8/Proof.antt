@@ -1,0 +1,65 @@
+-- Each turn carries the first entry behind the gap to its front, so that the entries with the gap closed stay.
+use mathlib.Core.Path.{refl}
+use Prim.Native.Nat.{_-_, _≤_}
+use native.Mathlib.Omega.{arith}
+use Rattle.gapped_slices.proofs.GapLaws.{Carrying, carrying-starts, carrying-ahead, carrying-ends}
+use borrow.Author.Needs.{needs}
+use Rattle.gapped_slices.proofs.carrying.carry_ahead_u8.Statement.{statement}
+use Rattle.gapped_slices.proofs.carrying.carry_ahead_u8.Tie as tie
+
+abbrev Inv-loop : tie.InvT-loop
+Inv-loop bytes₀ front behind to gap i₀ bytes i = (i ≤ to) × Carrying front behind bytes₀ bytes i
+
+abbrev μ-loop : tie.MeasureT-loop
+μ-loop bytes₀ front behind to gap i₀ bytes i = to - i
+
+sub-gap : tie.Need-sub-gap Inv-loop μ-loop
+sub-gap c = search needs
+
+sub-gap-2 : tie.Need-sub-gap-2 Inv-loop μ-loop
+sub-gap-2 c = search needs
+
+loop-holds : tie.Need-loop-holds Inv-loop μ-loop
+loop-holds c = (omega arith, carrying-starts)
+
+add-carried : tie.Need-add-carried Inv-loop μ-loop
+add-carried c = search needs
+
+slice-read-carried : tie.Need-slice-read-carried Inv-loop μ-loop
+slice-read-carried c = search needs
+
+slice-write-bytes : tie.Need-slice-write-bytes Inv-loop μ-loop
+slice-write-bytes c = search needs
+
+add-i : tie.Need-add-i Inv-loop μ-loop
+add-i c = search needs
+
+loop-less : tie.Need-loop-less Inv-loop μ-loop
+loop-less c = search needs
+
+loop-again : tie.Need-loop-again Inv-loop μ-loop
+loop-again c = (omega arith, carrying-ahead _ (c .before .before .loop .inv .1) refl (omega arith) (omega arith))
+
+same-length : tie.Need-same-length Inv-loop μ-loop
+same-length c = c .before .loop .inv .1 .long
+
+returns : tie.Need-returns Inv-loop μ-loop
+returns c = carrying-ends (c .before .loop .inv .1) (omega arith)
+
+pub carry-ahead-u8-spec : {M : Type 1} → statement M
+carry-ahead-u8-spec =
+    tie.close
+    (tie.spec
+    Inv-loop
+    μ-loop
+    sub-gap
+    sub-gap-2
+    loop-holds
+    add-carried
+    slice-read-carried
+    slice-write-bytes
+    add-i
+    loop-less
+    loop-again
+    same-length
+    returns)

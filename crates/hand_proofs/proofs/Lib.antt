@@ -1,0 +1,13 @@
+pub mod Answered
+pub mod Asked
+pub mod CountedLoop
+pub mod GivenUp
+pub mod Handed
+pub mod LentLocal
+pub mod LentOn
+pub mod LetGo
+pub mod OneMore
+pub mod Returned
+pub mod SliceCount
+pub mod SliceTells
+pub mod Typed

@@ -1,0 +1,129 @@
+// Text in, text out, over lent records.
+use crate::answers::Answer;
+use building::Counts;
+use building::sizes_of;
+use finishing::clear_records;
+use model::no_records;
+use refusals::Refusal;
+use rows::Settings;
+use writer::write_by_names;
+ghost use Rattle.field_slices.specs.Slice.{held};
+ghost use Rattle.model.specs.Lent.{lent};
+ghost use Rattle.service.specs.Serving.{Serves, WritesOut};
+
+// The model in the records written; on a refusal the records are cleared.
+fn write_out(
+    out: &mut [u8],
+    chains: &mut [u64],
+    residue_keys: &mut [u64],
+    residue_names: &mut [u64],
+    residue_codes: &mut [u8],
+    residue_categories: &mut [u8],
+    residue_positions: &mut [u8],
+    atom_keys: &mut [u64],
+    atom_names: &mut [u64],
+    elements: &mut [u8],
+    positions: &mut [[f64; 3]],
+    occupancies: &mut [f64],
+    counts: Counts,
+) -> Answer
+    ensures { λ r. ⌜ (let l = lent chains «residue_keys» «residue_names» «residue_codes» «residue_categories» «residue_positions» «atom_keys» «atom_names» elements positions occupancies in
+        let o = held out in WritesOut (l .entry) counts (o .entry) r (l .exit) (o .exit)) ⌝ }
+{
+    let written = write_by_names(
+        chains,
+        residue_keys,
+        residue_names,
+        residue_codes,
+        residue_categories,
+        residue_positions,
+        atom_keys,
+        atom_names,
+        elements,
+        positions,
+        occupancies,
+        sizes_of(counts),
+        out,
+    );
+    match written {
+        writer::Answer::Written(n) => Answer::Served {
+            written: n,
+            counts: counts,
+        },
+        writer::Answer::Refused(why) => {
+            clear_records(
+                chains,
+                residue_keys,
+                residue_names,
+                residue_codes,
+                residue_categories,
+                residue_positions,
+                atom_keys,
+                atom_names,
+                elements,
+                positions,
+                occupancies,
+                no_records(),
+            );
+            Answer::Refused(Refusal {
+                line: 0,
+                reason: why,
+            })
+        }
+    }
+}
+
+// Reads the text into the records, and writes what was read.
+pub fn serve(
+    text: &[u8],
+    out: &mut [u8],
+    chains: &mut [u64],
+    residue_keys: &mut [u64],
+    residue_names: &mut [u64],
+    residue_codes: &mut [u8],
+    residue_categories: &mut [u8],
+    residue_positions: &mut [u8],
+    atom_keys: &mut [u64],
+    atom_names: &mut [u64],
+    elements: &mut [u8],
+    positions: &mut [[f64; 3]],
+    occupancies: &mut [f64],
+    settings: Settings,
+) -> Answer
+    ensures { λ r. ⌜ (let l = lent chains «residue_keys» «residue_names» «residue_codes» «residue_categories» «residue_positions» «atom_keys» «atom_names» elements positions occupancies in
+        let o = held out in Serves settings (l .entry) (now (text .entry)) (o .entry) r (l .exit) (o .exit)) ⌝ }
+{
+    let answer = reader::read_by_names(
+        text,
+        chains,
+        residue_keys,
+        residue_names,
+        residue_codes,
+        residue_categories,
+        residue_positions,
+        atom_keys,
+        atom_names,
+        elements,
+        positions,
+        occupancies,
+        settings,
+    );
+    match answer {
+        reader::Answer::Refused(why) => Answer::Refused(why),
+        reader::Answer::Read(counts) => write_out(
+            out,
+            chains,
+            residue_keys,
+            residue_names,
+            residue_codes,
+            residue_categories,
+            residue_positions,
+            atom_keys,
+            atom_names,
+            elements,
+            positions,
+            occupancies,
+            counts,
+        ),
+    }
+}

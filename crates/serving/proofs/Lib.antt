@@ -1,4 +1,0 @@
-pub mod OwnRoom
-pub mod ServedFits
-pub mod ServingLaws
-pub mod WrittenAsRead

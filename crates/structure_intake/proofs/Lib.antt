@@ -1,0 +1,8 @@
+pub mod BytesTell
+pub mod CallLaws
+pub mod CallStored
+pub mod CountsAreSmall
+pub mod NeverTwelve
+pub mod NumbersFit
+pub mod RefusalsAreSmall
+pub mod ResultLaws

@@ -1,0 +1,34 @@
+-- The code asks the two questions that `isMissing` asks, in their order.
+use mathlib.Core.Path.{sym}
+use borrow.Author.Needs.{needs}
+use Rattle.token_values.proofs.words.is_missing.Statement.{statement}
+use Rattle.token_values.proofs.words.is_missing.Tie as tie
+
+slice-aggregate-same-bytes : tie.Need-slice-aggregate-same-bytes
+slice-aggregate-same-bytes c = search needs
+
+same-bytes-requires : tie.Need-same-bytes-requires
+same-bytes-requires c κs = search needs
+
+slice-aggregate-same-bytes-2 : tie.Need-slice-aggregate-same-bytes-2
+slice-aggregate-same-bytes-2 c = search needs
+
+same-bytes-requires-2 : tie.Need-same-bytes-requires-2
+same-bytes-requires-2 c κs = search needs
+
+returns : tie.Need-returns
+returns c = rw (sym (c .before .same-bytes .ensures), c .if1 .taken)
+
+returns-2 : tie.Need-returns-2
+returns-2 c = rw (sym (c .before .before .before .same-bytes .ensures), c .before .before .if1 .left) (c .same-bytes2 .ensures)
+
+pub is-missing-spec : {M : Type 1} → statement M
+is-missing-spec =
+    tie.close
+    (tie.spec
+    slice-aggregate-same-bytes
+    same-bytes-requires
+    slice-aggregate-same-bytes-2
+    same-bytes-requires-2
+    returns
+    returns-2)
