@@ -15,6 +15,16 @@ kit_logic=$kit_own/logic-built
 emulator=$kit_tools/bin/qemu-x86_64
 [ -x "$emulator" ] || emulator=''
 
+# Before a check the prover copies the modules of all that the crate stands on into a temporary folder, up to 8,000 files and 0.4 GB, which in
+# memory costs less than on a disk. So temporary files go into memory, unless the caller says where they go: where there is such a
+# file system with room for the provers of a gate, and where rt can run a program from it, since rt runs programs on copies.
+memory=/dev/shm
+if [ -z "${TMPDIR:-}" ] && [ -w "$memory" ] && ! grep -q "^[^ ]* $memory [^ ]* [^ ]*noexec" /proc/mounts &&
+    [ "$(df -Pk "$memory" | awk 'NR == 2 { print $4 }')" -ge 4000000 ] && [ "$(awk '/^MemAvailable:/ { print $2 }' /proc/meminfo)" -ge 12000000 ]; then
+    TMPDIR=$memory
+    export TMPDIR
+fi
+
 # Says so where this kit has another identity: what was proved with one kit may need a change with another. To be called before
 # anything is proved.
 tell_of_another_kit() {
