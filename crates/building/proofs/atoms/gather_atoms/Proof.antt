@@ -19,19 +19,19 @@ move-gap-f64-requires : tie.Need-move-gap-f64-requires
 move-gap-f64-requires c κs = search needs
 
 same-length : tie.Need-same-length
-same-length c = search needs
+same-length c = c .before .before .before .before .before .before .before .before .before .before .before .before .before .before .before .before .keys .given
 
 same-length-2 : tie.Need-same-length-2
-same-length-2 c = search needs
+same-length-2 c = c .before .before .before .before .before .before .before .before .before .before .before .before .names .given
 
 same-length-3 : tie.Need-same-length-3
-same-length-3 c = search needs
+same-length-3 c = c .before .before .before .before .before .before .before .before .elements .given
 
 same-length-4 : tie.Need-same-length-4
-same-length-4 c = search needs
+same-length-4 c = c .before .before .before .before .positions .given
 
 same-length-5 : tie.Need-same-length-5
-same-length-5 c = search needs
+same-length-5 c = c .before .occupancies .given
 
 returns : tie.Need-returns
 returns c = (c .before .before .before .before .before .before .before .before .before .before .before .before .before .before .before .before .before .move-gap-u64 .ensures, (c .before .before .before .before .before .before .before .before .before .before .before .before .before .move-gap-u642 .ensures, (c .before .before .before .before .before .before .before .before .before .move-gap-u8 .ensures, (c .before .before .before .before .before .move-gap-point .ensures, c .before .before .move-gap-f64 .ensures))))

@@ -1,4 +1,5 @@
 -- Each slice takes what is new; then what is outdone is replaced.
+use mathlib.Core.Path.{_∙_}
 use Rattle.building.proofs.GapsHeld.{bettered}
 use borrow.Author.Needs.{needs}
 use Rattle.building.proofs.atoms.put_atom.Statement.{statement}
@@ -23,19 +24,19 @@ replace-atom-requires : tie.Need-replace-atom-requires
 replace-atom-requires c κs = search needs
 
 same-length : tie.Need-same-length
-same-length c = search needs
+same-length c = c .before .before .before .before .before .before .before .before .before .before .before .before .before .before .before .before .before .before .before .before .before .before .before .before .before .keys .given
 
 same-length-2 : tie.Need-same-length-2
-same-length-2 c = search needs
+same-length-2 c = c .before .before .before .before .before .before .before .before .before .before .before .before .before .before .before .before .before .before .before .before .before .names .given
 
 same-length-3 : tie.Need-same-length-3
-same-length-3 c = search needs
+same-length-3 c = c .before .before .before .before .elements2 .given ∙ c .before .before .before .before .before .before .before .before .before .before .before .before .before .before .before .before .before .elements .given
 
 same-length-4 : tie.Need-same-length-4
-same-length-4 c = search needs
+same-length-4 c = c .before .before .positions2 .given ∙ c .before .before .before .before .before .before .before .before .before .before .before .before .before .positions .given
 
 same-length-5 : tie.Need-same-length-5
-same-length-5 c = search needs
+same-length-5 c = c .before .occupancies2 .given ∙ c .before .before .before .before .before .before .before .before .before .before .occupancies .given
 
 returns : tie.Need-returns
 returns c =

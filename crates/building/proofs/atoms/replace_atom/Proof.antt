@@ -1,5 +1,5 @@
 -- All three are stored, or none.
-use mathlib.Core.Path.{sym, ap, _∙_}
+use mathlib.Core.Path.{refl, sym, ap, _∙_}
 use mathlib.Core.Bool.{Bool, cond}
 use Prim.Native.Nat.{ℕ, _-_}
 use lib.ListN.{set}
@@ -12,7 +12,7 @@ is-outdone-requires : tie.Need-is-outdone-requires
 is-outdone-requires c κs = search needs
 
 same-length : tie.Need-same-length
-same-length c = search needs
+same-length c = refl
 
 returns : tie.Need-returns
 returns c =
@@ -33,13 +33,13 @@ store-f64-requires : tie.Need-store-f64-requires
 store-f64-requires c κs = search needs
 
 same-length-2 : tie.Need-same-length-2
-same-length-2 c = search needs
+same-length-2 c = c .before .before .before .before .before .before .before .before .elements .given
 
 same-length-3 : tie.Need-same-length-3
-same-length-3 c = search needs
+same-length-3 c = c .before .before .before .before .positions .given
 
 same-length-4 : tie.Need-same-length-4
-same-length-4 c = search needs
+same-length-4 c = c .before .occupancies .given
 
 returns-2 : tie.Need-returns-2
 returns-2 c =
