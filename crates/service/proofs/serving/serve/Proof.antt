@@ -23,6 +23,40 @@ entry s =
     (s .args .positions .now)
     (s .args .occupancies .now)
 
+-- the slices as the reading leaves them
+abbrev left : tie.After-read-by-names → Lent
+left p =
+    let l = p .read-by-names .last .1 in
+    lentOf
+    (l .0)
+    (l .1 .0)
+    (l .1 .1 .0)
+    (l .1 .1 .1 .0)
+    (l .1 .1 .1 .1 .0)
+    (l .1 .1 .1 .1 .1 .0)
+    (l .1 .1 .1 .1 .1 .1 .0)
+    (l .1 .1 .1 .1 .1 .1 .1 .0)
+    (l .1 .1 .1 .1 .1 .1 .1 .1 .0)
+    (l .1 .1 .1 .1 .1 .1 .1 .1 .1 .0)
+    (l .1 .1 .1 .1 .1 .1 .1 .1 .1 .1 .0)
+
+-- and as the writing leaves them
+abbrev written : tie.After-write-out → Lent
+written p =
+    let l = p .write-out .last .1 in
+    lentOf
+    (l .0)
+    (l .1 .0)
+    (l .1 .1 .0)
+    (l .1 .1 .1 .0)
+    (l .1 .1 .1 .1 .0)
+    (l .1 .1 .1 .1 .1 .0)
+    (l .1 .1 .1 .1 .1 .1 .0)
+    (l .1 .1 .1 .1 .1 .1 .1 .0)
+    (l .1 .1 .1 .1 .1 .1 .1 .1 .0)
+    (l .1 .1 .1 .1 .1 .1 .1 .1 .1 .0)
+    (l .1 .1 .1 .1 .1 .1 .1 .1 .1 .1 .0)
+
 read-by-names-requires : tie.Need-read-by-names-requires
 read-by-names-requires c κs = search needs
 
@@ -71,8 +105,9 @@ same-length-11 c = c .before .before .before .before .occupancies .given
 returns : tie.Need-returns
 returns c =
     let t = c .before .before .before .before .before .before .before .before .before .before .before .before .before .before .before .before .before .before .before .before .before .before .before .before .before .before .before .before .before .before .before .before .before .before .before .before .before .before .before .before .before .before .before .before .before .before .before .before in
-    let r = c .before .before .before .before .before .before .before .before .before .before .before .before .before .before .before .before .before .before .before .before .before .before .before .before .read-by-names in
-    serve-unread (t .args .settings) (entry t) (t .args .text .now) (t .args .out .now) _ _ (sym (c .before .answer .given .1) ∙ r .ensures .0) (r .ensures .1)
+    let p = c .before .before .before .before .before .before .before .before .before .before .before .before .before .before .before .before .before .before .before .before .before .before .before .before in
+    let r = p .read-by-names in
+    serve-unread (t .args .settings) (entry t) (t .args .text .now) (t .args .out .now) (c .before .answer .given .0 .0) (left p) (sym (c .before .answer .given .1) ∙ r .ensures .0) (r .ensures .1)
 
 same-length-12 : tie.Need-same-length-12
 same-length-12 c = c .before .before .before .before .before .before .before .before .before .before .before .before .before .before .before .before .before .before .before .before .before .before .out .given
@@ -113,10 +148,11 @@ same-length-23 c = c .before .occupancies2 .given ∙ c .before .before .before 
 returns-2 : tie.Need-returns-2
 returns-2 c =
     let t = c .before .before .before .before .before .before .before .before .before .before .before .before .before .before .before .before .before .before .before .before .before .before .before .before .before .before .before .before .before .before .before .before .before .before .before .before .before .before .before .before .before .before .before .before .before .before .before .before .before .before .before .before .before .before .before .before .before .before .before .before .before .before .before .before .before .before .before .before .before .before .before .before .before .before .before .before .before .before .before .before .before .before .before .before in
-    let r = c .before .before .before .before .before .before .before .before .before .before .before .before .before .before .before .before .before .before .before .before .before .before .before .before .before .before .before .before .before .before .before .before .before .before .before .before .before .before .before .before .before .before .before .before .before .before .before .before .before .before .before .before .before .before .before .before .before .before .before .before .read-by-names in
-    let w = c .before .before .before .before .before .before .before .before .before .before .before .before .before .before .before .before .before .before .before .before .before .before .before .write-out in
-    serve-read (t .args .settings) (entry t) (t .args .text .now) (t .args .out .now) _ _ _ _ _ (sym (c .before .before .before .before .before .before .before .before .before .before .before .before .before .before .before .before .before .before .before .before .before .before .before .before .before .before .before .before .before .before .before .before .before .before .before .before .before .answer2 .given .1) ∙ r .ensures .0) (r .ensures .1)
-    (same-holding (entry t) _
+    let p = c .before .before .before .before .before .before .before .before .before .before .before .before .before .before .before .before .before .before .before .before .before .before .before .before .before .before .before .before .before .before .before .before .before .before .before .before .before .before .before .before .before .before .before .before .before .before .before .before .before .before .before .before .before .before .before .before .before .before .before .before in
+    let q = c .before .before .before .before .before .before .before .before .before .before .before .before .before .before .before .before .before .before .before .before .before .before .before in
+    let r = p .read-by-names in
+    serve-read (t .args .settings) (entry t) (t .args .text .now) (t .args .out .now) (c .before .before .before .before .before .before .before .before .before .before .before .before .before .before .before .before .before .before .before .before .before .before .before .before .before .before .before .before .before .before .before .before .before .before .before .before .before .answer2 .given .0 .0) (left p) (written q) (q .write-out .result) (q .write-out .last .0) (sym (c .before .before .before .before .before .before .before .before .before .before .before .before .before .before .before .before .before .before .before .before .before .before .before .before .before .before .before .before .before .before .before .before .before .before .before .before .before .answer2 .given .1) ∙ r .ensures .0) (r .ensures .1)
+    (same-holding (entry t) (left p)
     (record {
       chains = c .before .before .before .before .before .before .before .before .before .before .before .before .before .before .before .before .before .before .before .before .before .before .before .before .before .before .before .before .before .before .before .before .before .before .before .before .before .before .before .before .before .before .before .before .before .before .before .before .before .before .before .before .before .before .before .before .before .before .before .chains .given;
       residueKeys = c .before .before .before .before .before .before .before .before .before .before .before .before .before .before .before .before .before .before .before .before .before .before .before .before .before .before .before .before .before .before .before .before .before .before .before .before .before .before .before .before .before .before .before .before .before .before .before .before .before .before .before .before .before .before .before .before .before .residue-keys .given;
@@ -130,7 +166,7 @@ returns-2 c =
     })
     (c .before .before .before .before .before .before .before .before .before .before .before .before .before .before .before .before .before .before .before .before .before .before .before .before .before .before .before .before .before .before .before .before .before .before .before .before .before .before .before .before .before .before .before .before .before .before .before .before .before .before .before .before .before .residue-codes .given)
     (c .before .before .before .before .before .before .before .before .before .before .before .before .before .before .before .before .before .before .before .before .before .before .before .before .before .before .before .before .before .before .before .before .before .before .before .before .before .before .before .before .before .before .before .before .before .before .before .before .before .residue-positions .given))
-    (w .ensures)
+    (q .write-out .ensures)
 
 pub serve-spec : {M : Type 1} → statement M
 serve-spec =
