@@ -1,6 +1,6 @@
 // The intake as a program: a text from standard input; what it says to standard output, written anew, or a line that says why not.
 use libc::STDIN_FILENO;
-use service::Answer;
+use results::Answer;
 use service::serve_own;
 
 mod say;

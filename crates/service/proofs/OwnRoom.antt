@@ -6,8 +6,8 @@ use lib.ListN.{length}
 use Rattle.rows.specs.declared.settings.Settings.{Settings}
 use Rattle.model.specs.Lent.{Lent, roomOf}
 use Rattle.model.specs.declared.room.Room.{Room}
+use Rattle.results.specs.declared.answers.Answer.{Answer}
 use Rattle.service.specs.Serving.{ownRoom, serveOf, answerOf, writtenTo, Serves, ServesOwn}
-use Rattle.service.specs.declared.answers.Answer.{Answer}
 
 pub own-room : (l : Lent)
     → length (l .chains) ≡ 64

@@ -12,6 +12,7 @@ use Rattle.rows.specs.declared.settings.Settings.{Settings}
 use Rattle.building.specs.declared.sites.Counts.{Counts}
 use Rattle.model.specs.Records.{Model}
 use Rattle.model.specs.declared.room.Room.{Room}
+use Rattle.results.specs.declared.answers.Answer.{Answer}
 use Rattle.reader.specs.Reading as reader
 use Rattle.reader.specs.Reading.{Reading, read, readOf}
 use Rattle.writer.specs.Text.{textOf}
@@ -19,7 +20,6 @@ use Rattle.writer.specs.Unwritable.{unwritableIn}
 use Rattle.writer.specs.Writing as writer
 use Rattle.writer.specs.Writing.{written, writtenBut}
 use Rattle.service.specs.Serving.{byWriting, byReading, ownRoom, serveOf, answerOf, ServesOwn}
-use Rattle.service.specs.declared.answers.Answer.{Answer}
 
 module _ (size n : ℕ) (counts : Counts) where
   abbrev Is : Answer → Type 0

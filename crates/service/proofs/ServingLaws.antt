@@ -13,6 +13,7 @@ use Rattle.building.specs.declared.sites.Counts.{Counts}
 use Rattle.model.specs.Lent.{Lent, roomOf, holding, emptyModel}
 use Rattle.model.specs.Records.{Model}
 use Rattle.model.specs.declared.room.Room.{Room}
+use Rattle.results.specs.declared.answers.Answer.{Answer}
 use Rattle.reader.specs.Reading as reader
 use Rattle.reader.specs.Reading.{Reading, read, readOf}
 use Rattle.reader.specs.declared.answers.Answer.the-variants as read-answer
@@ -21,7 +22,6 @@ use Rattle.writer.specs.Writing.{Writing, written, writingOf, writeOf, Wrote}
 use Rattle.writer.specs.declared.answers.Answer as writer-answer
 use Rattle.writer.specs.declared.answers.Answer.the-variants as written-answer
 use Rattle.service.specs.Serving.{byWriting, byReading, serveOf, answerOf, leftIn, writtenTo, Serves, writtenAnswer, leftWritten, WritesOut}
-use Rattle.service.specs.declared.answers.Answer.{Answer}
 use Rattle.service.proofs.WrittenAsRead.{written-as-read}
 
 -- ---- the writing

@@ -13,10 +13,10 @@ use Rattle.reader.specs.Reading as reader
 use Rattle.reader.specs.Reading.{Reading, read, readOf}
 use Rattle.refusals.specs.Reasons.{at}
 use Rattle.refusals.specs.declared.reasons.Refusal.{Refusal}
+use Rattle.results.specs.declared.answers.Answer.{Answer}
 use Rattle.rows.specs.declared.settings.Settings.{Settings}
 use Rattle.writer.specs.Writing as writer
 use Rattle.writer.specs.Writing.{Writing, written, writingOf, writeOf}
-use Rattle.service.specs.declared.answers.Answer.{Answer}
 
 pub data Serving : Type 0 where
   served : List ℕ → Model → Counts → Serving

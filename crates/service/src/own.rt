@@ -1,6 +1,6 @@
 // The service with records of its own, as the program and the host call have it: 64 chains, 512 residues, 1,024 atoms.
-use crate::answers::Answer;
 use crate::serving::serve;
+use results::Answer;
 use rows::Settings;
 ghost use Rattle.field_slices.specs.Slice.{held};
 ghost use Rattle.service.specs.Serving.{ServesOwn};

@@ -1,10 +1,10 @@
 // Text in, text out, over lent records.
-use crate::answers::Answer;
 use building::Counts;
 use building::sizes_of;
 use finishing::clear_records;
 use model::no_records;
 use refusals::Refusal;
+use results::Answer;
 use rows::Settings;
 use writer::write_by_names;
 ghost use Rattle.field_slices.specs.Slice.{held};

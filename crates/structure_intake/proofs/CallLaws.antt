@@ -6,9 +6,10 @@ use Prim.Native.Nat.{ℕ}
 use Rattle.rows.specs.Settings.{assuming}
 use Rattle.rows.specs.declared.settings.Settings.{Settings}
 use Rattle.model.specs.Lent.{Lent}
-use Rattle.structure_intake.specs.Results.{statusIn, numbersIn, bytesOf, isWhole, badResult, statusBy, recordsBy, bufferBy, resultBy, Calls, CallsOwn}
+use Rattle.results.specs.Results.{statusIn, numbersIn, bytesOf, isWhole}
+use Rattle.results.specs.declared.answers.Answer.{Answer}
+use Rattle.structure_intake.specs.Calls.{badResult, statusBy, recordsBy, bufferBy, resultBy, Calls, CallsOwn}
 use Rattle.service.specs.Serving.{Serves, ServesOwn}
-use Rattle.service.specs.declared.answers.Answer.{Answer}
 
 module _ {A : Type 0} (b : Bool) (x y : A) where
   if-so : b ≡ true → x ≡ cond b x y

@@ -7,12 +7,13 @@ use lib.ListN.{length, take}
 use Rattle.rows.specs.Settings.{assuming}
 use Rattle.model.specs.Lent.{Lent, roomOf, emptyModel}
 use Rattle.model.specs.declared.room.Room.{Room}
+use Rattle.results.specs.Results.{isWhole}
 use Rattle.chains.specs.declared.chain.Chain.{Chain}
 use Rattle.chains.specs.Names.{namesIn, named}
 use Rattle.structures.proofs.StoredIsHeld.{room-stored, holding-stored, none-stored}
 use Rattle.structures.proofs.WithChains.{withChains}
 use Rattle.service.specs.Serving.{Serving, served, refused, serveOf, leftIn}
-use Rattle.structure_intake.specs.Results.{isWhole, renewedIn, statusBy, recordsBy, bufferBy, resultBy, Calls}
+use Rattle.structure_intake.specs.Calls.{renewedIn, statusBy, recordsBy, bufferBy, resultBy, Calls}
 
 pub call-stored : (ys : List Chain) (names₀ names₁ : List ℕ) (l l′ : Lent) (text out result : List ℕ) (status : ℕ) (bytes numbers : List ℕ) → length names₀ ≡ 4096 → length names₁ ≡ 4096
     → Calls (withChains l (take (length ys) names₀)) text out result status (withChains l′ (take (length ys) names₁)) bytes numbers

@@ -1,8 +1,6 @@
-pub mod BytesTell
 pub mod CallLaws
 pub mod CallStored
 pub mod CountsAreSmall
 pub mod NeverTwelve
 pub mod NumbersFit
 pub mod RefusalsAreSmall
-pub mod ResultLaws

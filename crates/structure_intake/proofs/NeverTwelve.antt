@@ -11,6 +11,7 @@ use Rattle.rows.specs.declared.settings.Settings.{Settings}
 use Rattle.building.specs.declared.sites.Counts.{Counts}
 use Rattle.model.specs.Records.{Model}
 use Rattle.model.specs.declared.room.Room.{Room}
+use Rattle.results.specs.Results.{statusIn}
 use Rattle.reader.specs.Reading as reader
 use Rattle.reader.specs.Reading.{Reading, read, readOf}
 use Rattle.reader.proofs.RefusalsAreExact.{read-numbers}
@@ -18,7 +19,6 @@ use Rattle.writer.specs.Text.{textOf}
 use Rattle.writer.specs.Unwritable.{unwritableIn}
 use Rattle.writer.specs.Writing as writer
 use Rattle.writer.specs.Writing.{written, writtenBut}
-use Rattle.structure_intake.specs.Results.{statusIn}
 use Rattle.service.specs.Serving.{byWriting, byReading, serveOf, answerOf}
 
 -- ---- the theorem

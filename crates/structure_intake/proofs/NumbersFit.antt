@@ -17,6 +17,8 @@ use Rattle.model.specs.Lists.{All}
 use Rattle.model.specs.Records.{AtomRecord, Model}
 use Rattle.model.specs.declared.room.Room.{Room}
 use Rattle.model.proofs.HeldModelIsRead.{held-model-is-read}
+use Rattle.results.specs.Results.{numbersIn, bytesOf}
+use Rattle.results.proofs.BytesTell.{numbersTold, bytes-tell}
 use Rattle.reader.specs.Reading as reader
 use Rattle.reader.specs.Reading.{Reading, read, readOf}
 use Rattle.reader.proofs.SlicesOfOneSize.{room-within}
@@ -25,9 +27,7 @@ use Rattle.writer.specs.Unwritable.{isUnwritable, firstUnwritable, unwritableIn
 use Rattle.writer.specs.Writing as writer
 use Rattle.writer.specs.Writing.{written, writtenBut}
 use Rattle.writer.proofs.TextIsShort.{text-short}
-use Rattle.structure_intake.specs.Results.{numbersIn, bytesOf}
 use Rattle.service.specs.Serving.{byWriting, byReading, ownRoom, serveOf, answerOf}
-use Rattle.structure_intake.proofs.BytesTell.{numbersTold, bytes-tell}
 use Rattle.structure_intake.proofs.CountsAreSmall.{counts-are-small}
 use Rattle.service.proofs.OwnRoom.{own-room}
 use Rattle.structure_intake.proofs.RefusalsAreSmall.{refusals-are-small}

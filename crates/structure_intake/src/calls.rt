@@ -1,11 +1,11 @@
 // The service through C conventions: each slice is a pointer and a length. Nothing is kept after a call, and nothing is allocated.
-use crate::results::is_whole;
-use crate::results::put_numbers;
-use crate::results::status_of;
 use chains::Chain;
 use chains::Names;
 use chains::no_names;
 use chains::store_names;
+use results::is_whole;
+use results::put_numbers;
+use results::status_of;
 use service::serve;
 use service::serve_own;
 ghost use mathlib.Core.Path.{_≡_};
@@ -14,7 +14,7 @@ ghost use lib.ListN.{length};
 ghost use Rattle.chains.specs.Names.{firstAt, namesAt};
 ghost use Rattle.field_slices.specs.Slice.{held};
 ghost use Rattle.model.specs.Lent.{lentBy};
-ghost use Rattle.structure_intake.specs.Results.{renewedIn, Calls, CallsOwn};
+ghost use Rattle.structure_intake.specs.Calls.{renewedIn, Calls, CallsOwn};
 
 // The host call's own refusal.
 const BAD_RESULT: u32 = 26;

@@ -6,6 +6,7 @@ use Prim.Native.Nat.{ℕ, zero-le}
 use borrow.Author.Tests.{not-true, not-false}
 use lib.ListN.{take}
 use Rattle.model.specs.Lent.{Lent, lentOf}
+use Rattle.results.proofs.ResultLaws.{told-whole}
 use Rattle.service.specs.Serving.{Serves}
 use Rattle.structures.proofs.FrontLaws.{lent-front}
 use Rattle.structure_intake.proofs.CallLaws.{called, not-called}
@@ -73,7 +74,7 @@ serve-requires : tie.Need-serve-requires
 serve-requires c κs = search needs
 
 put-numbers-requires : tie.Need-put-numbers-requires
-put-numbers-requires c κs = sym (c .before .before .before .before .before .before .before .before .before .before .before .before .before .before .before .before .before .before .before .before .before .before .before .before .before .before .before .before .before .before .before .before .before .before .before .before .before .before .before .is-whole .ensures) ∙ not-false _ (c .before .before .before .before .before .before .before .before .before .before .before .before .before .before .before .before .before .before .before .before .before .before .before .before .before .before .before .before .before .before .before .before .before .before .before .before .before .before .if1 .left)
+put-numbers-requires c κs = search needs
 
 status-of-requires : tie.Need-status-of-requires
 status-of-requires c κs = search needs
@@ -125,9 +126,10 @@ returns-2 c =
     let l = p .serve .last .1 in
     let names = t .args .names .now in
     let front = lent-front (λ before after. Serves (settings .result) (entry t before) (t .args .text .now) (t .args .out .now) (p .serve .result) (left p after) (l .0)) (t .args .size) names (l .1 .0) (t .pre) (c .before .before .before .before .before .before .before .before .before .before .before .before .before .before .before .before .before .before .before .before .before .before .before .before .before .names .given .0) (p .serve .ensures) in
-    called (t .args .text .now) (t .args .out .now) (t .args .result .now) (settings .result) (settings .ensures) (entry t (take (t .args .size) names)) _ _ _ _ _ (sym (c .before .before .before .before .before .before .before .before .before .before .before .before .before .before .before .before .before .before .before .before .before .before .before .before .before .before .before .before .before .before .before .before .before .before .before .before .before .before .before .before .before .before .before .is-whole .ensures) ∙ not-false _ (c .before .before .before .before .before .before .before .before .before .before .before .before .before .before .before .before .before .before .before .before .before .before .before .before .before .before .before .before .before .before .before .before .before .before .before .before .before .before .before .before .before .before .if1 .left))
+    let whole = sym (c .before .before .before .before .before .before .before .before .before .before .before .before .before .before .before .before .before .before .before .before .before .before .before .before .before .before .before .before .before .before .before .before .before .before .before .before .before .before .before .before .before .before .before .is-whole .ensures) ∙ not-false _ (c .before .before .before .before .before .before .before .before .before .before .before .before .before .before .before .before .before .before .before .before .before .before .before .before .before .before .before .before .before .before .before .before .before .before .before .before .before .before .before .before .before .before .if1 .left) in
+    called (t .args .text .now) (t .args .out .now) (t .args .result .now) (settings .result) (settings .ensures) (entry t (take (t .args .size) names)) _ _ _ _ _ whole
     front
-    (c .before .before .before .put-numbers .ensures)
+    (c .before .before .before .put-numbers .ensures ∙ told-whole (t .args .result .now) (p .serve .result) whole)
     (c .status-of .ensures)
 
 pub call-first-spec : {M : Type 1} → statement M

@@ -4,7 +4,7 @@ use Prim.Native.Nat.{ℕ}
 use native.Mathlib.Omega.{arith}
 use Rattle.model.specs.Lent.{Lent, lentOf}
 use Rattle.structures.proofs.FrontLaws.{kept-front}
-use Rattle.structure_intake.specs.Results.{Calls}
+use Rattle.structure_intake.specs.Calls.{Calls}
 use borrow.Author.Needs.{needs}
 use Rattle.structure_intake.proofs.calls.call_into.Statement.{statement}
 use Rattle.structure_intake.proofs.calls.call_into.Tie as tie

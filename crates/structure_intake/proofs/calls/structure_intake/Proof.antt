@@ -1,6 +1,7 @@
 -- A result of another length is refused at once; else the answer of the service is told in it.
 use mathlib.Core.Path.{sym, _∙_}
 use borrow.Author.Tests.{not-true, not-false}
+use Rattle.results.proofs.ResultLaws.{told-whole}
 use Rattle.structure_intake.proofs.CallLaws.{called-own, not-called-own}
 use borrow.Author.Needs.{needs}
 use Rattle.structure_intake.proofs.calls.structure_intake.Statement.{statement}
@@ -24,7 +25,7 @@ serve-own-requires : tie.Need-serve-own-requires
 serve-own-requires c κs = search needs
 
 put-numbers-requires : tie.Need-put-numbers-requires
-put-numbers-requires c κs = sym (c .before .before .before .before .before .before .before .is-whole .ensures) ∙ not-false _ (c .before .before .before .before .before .before .if1 .left)
+put-numbers-requires c κs = search needs
 
 status-of-requires : tie.Need-status-of-requires
 status-of-requires c κs = search needs
@@ -39,9 +40,11 @@ returns-2 : tie.Need-returns-2
 returns-2 c =
     let t = c .before .before .before .before .before .before .before .before .before .before .before .before .before .before .before .before in
     let settings = c .before .before .before .before .before .before .before .before .assuming in
-    called-own (t .args .text .now) (t .args .out .now) (t .args .result .now) (settings .result) (settings .ensures) _ _ _ _ (sym (c .before .before .before .before .before .before .before .before .before .before .before .is-whole .ensures) ∙ not-false _ (c .before .before .before .before .before .before .before .before .before .before .if1 .left))
-    (c .before .before .before .before .before .before .before .serve-own .ensures)
-    (c .before .before .before .put-numbers .ensures)
+    let s = c .before .before .before .before .before .before .before .serve-own in
+    let whole = sym (c .before .before .before .before .before .before .before .before .before .before .before .is-whole .ensures) ∙ not-false _ (c .before .before .before .before .before .before .before .before .before .before .if1 .left) in
+    called-own (t .args .text .now) (t .args .out .now) (t .args .result .now) (settings .result) (settings .ensures) _ _ _ _ whole
+    (s .ensures)
+    (c .before .before .before .put-numbers .ensures ∙ told-whole (t .args .result .now) (s .result) whole)
     (c .status-of .ensures)
 
 pub structure-intake-spec : {M : Type 1} → statement M

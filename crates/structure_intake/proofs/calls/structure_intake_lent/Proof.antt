@@ -44,7 +44,7 @@ use Rattle.chains.specs.Names.{namesIn, named as stored}
 use Rattle.chains.specs.declared.chain.Chain.{Chain}
 use Rattle.chains.proofs.NamesInMemory.{Names}
 use Rattle.chains.proofs.chain.Chain as Row
-use Rattle.structure_intake.specs.Results.{renewedIn, Calls as Called}
+use Rattle.structure_intake.specs.Calls.{renewedIn, Calls as Called}
 use Rattle.structure_intake.proofs.CallStored.{call-stored}
 use Rattle.structures.proofs.ArrayOfNames.{to-names, NoNames, makes-names}
 use Rattle.structures.proofs.LentAs.{slices-now, slices-last}

@@ -1,15 +1,15 @@
 -- Four bytes are put behind those of the numbers before, so that in the end the result is the bytes of all seven.
 use mathlib.Core.Path.{_≡_, refl, sym, ap, _∙_}
-use mathlib.Core.Bool.{true}
+use mathlib.Core.Bool.{Bool, true, false, cond}
 use mathlib.Core.List.{List, [], _∷_, _++_}
 use Prim.Native.Nat.{ℕ, suc, _+_, _*_, _≤_, _<_}
 use native.Mathlib.Omega.{arith}
 use lib.ListN.{length, getD, take, drop, length-append}
 use lib.Seq.{sets, sets-eq, length-sets, take-suc, take-at, take-all, length-take-le}
 use borrow.Author.Tests.{eqb-true}
-use Rattle.structure_intake.specs.Results.{numbersIn, littleEndian, bytesOf, isWhole}
-use Rattle.service.specs.declared.answers.Answer.{Answer}
-use Rattle.service.specs.declared.answers.Answer.the-variants.{Served, Refused}
+use Rattle.results.specs.Results.{numbersIn, littleEndian, bytesOf, isWhole, toldIn}
+use Rattle.results.specs.declared.answers.Answer.{Answer}
+use Rattle.results.specs.declared.answers.Answer.the-variants.{Served, Refused}
 
 seven : (answer : Answer) → length (numbersIn answer) ≡ 7
 seven (Served written counts) = refl
@@ -28,6 +28,15 @@ put-behind : (r : List ℕ) (at : ℕ) (s : List ℕ) → at + length s ≤ leng
 put-behind r at s h =
     ap (take (at + length s)) (sets-eq s r at h)
     ∙ take-at (take at r ++ s) (drop (at + length s) r) (at + length s) (length-append (take at r) s ∙ ap (λ (n : ℕ). n + length s) (length-take-le at r (omega arith)))
+
+-- ---- what is told, by the length of the result
+pub told-whole : (result : List ℕ) (answer : Answer) → isWhole result ≡ true → toldIn result answer ≡ bytesOf (numbersIn answer)
+unfolding toldIn
+told-whole result answer e = ap (λ (t : Bool). cond t (bytesOf (numbersIn answer)) result) e
+
+pub told-other : (result : List ℕ) (answer : Answer) → isWhole result ≡ false → toldIn result answer ≡ result
+unfolding toldIn
+told-other result answer e = ap (λ (t : Bool). cond t (bytesOf (numbersIn answer)) result) e
 
 -- ---- the first k of them are put
 pub record Putting (numbers result : List ℕ) (k : ℕ) : Type 0 where

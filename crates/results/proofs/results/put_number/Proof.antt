@@ -5,8 +5,8 @@ use native.Mathlib.Omega.{arith}
 use lib.ListN.{set}
 use lib.Seq.{lt-length-set}
 use borrow.Author.Needs.{needs}
-use Rattle.structure_intake.proofs.results.put_number.Statement.{statement}
-use Rattle.structure_intake.proofs.results.put_number.Tie as tie
+use Rattle.results.proofs.results.put_number.Statement.{statement}
+use Rattle.results.proofs.results.put_number.Tie as tie
 
 cast-result : tie.Need-cast-result
 cast-result c = search needs

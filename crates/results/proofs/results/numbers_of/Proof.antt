@@ -1,10 +1,10 @@
 -- Each case of the answer is a case of the definition.
 use mathlib.Core.Path.{sym, ap, _∙_}
 use mathlib.Core.List.{[], _∷_}
-use Rattle.structure_intake.specs.Results.{numbersIn}
+use Rattle.results.specs.Results.{numbersIn}
 use borrow.Author.Needs.{needs}
-use Rattle.structure_intake.proofs.results.numbers_of.Statement.{statement}
-use Rattle.structure_intake.proofs.results.numbers_of.Tie as tie
+use Rattle.results.proofs.results.numbers_of.Statement.{statement}
+use Rattle.results.proofs.results.numbers_of.Tie as tie
 
 enum-known-answer : tie.Need-enum-known-answer
 enum-known-answer c = search needs

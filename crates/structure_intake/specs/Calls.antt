@@ -1,39 +1,16 @@
--- What the host call answers: a number, and seven 32-bit little-endian numbers in a lent result of 28 bytes.
+-- What the host call does: it answers a number, and tells seven more in a lent result of 28 bytes.
 use mathlib.Core.Path.{_≡_}
-use mathlib.Core.Bool.{Bool, cond}
-use mathlib.Core.List.{List, [], _∷_, _++_}
-use Prim.Native.Nat.{ℕ, _/_, _%_, _^_}
+use mathlib.Core.Bool.{cond}
+use mathlib.Core.List.{List}
+use Prim.Native.Nat.{ℕ}
 use lib.Dec.{eqb}
 use lib.ListN.{length}
-use Rattle.refusals.specs.Reasons.{numberOf, detailOf}
 use Rattle.rows.specs.Settings.{assuming}
 use Rattle.model.specs.Lent.{Lent, roomOf}
-use Rattle.service.specs.declared.answers.Answer.{Answer}
-use Rattle.service.specs.declared.answers.Answer.the-variants.{Served, Refused}
+use Rattle.results.specs.Results.{statusIn, numbersIn, bytesOf, isWhole}
 use Rattle.service.specs.Serving.{Serving, ownRoom, serveOf, answerOf, leftIn, writtenTo}
 
--- "the refusal number, or 0"
-abbrev pub statusIn : Answer → ℕ
-statusIn (Served written counts) = 0
-statusIn (Refused why) = numberOf (why .reason)
-
--- "line, detail, bytes written, rows, skipped, outdone, assumed; after a refusal the last five are 0"
-abbrev pub numbersIn : Answer → List ℕ
-numbersIn (Served written counts) = 0 ∷ 0 ∷ written ∷ counts .rows ∷ counts .skipped ∷ counts .outdone ∷ counts .assumed ∷ []
-numbersIn (Refused why) = why .line ∷ detailOf (why .reason) ∷ 0 ∷ 0 ∷ 0 ∷ 0 ∷ 0 ∷ []
-
--- four bytes, the lowest first
-abbrev pub littleEndian : ℕ → List ℕ
-littleEndian n = n % 256 ∷ n / 2 ^ 8 % 256 ∷ n / 2 ^ 16 % 256 ∷ n / 2 ^ 24 % 256 ∷ []
-
-unfoldable pub bytesOf : List ℕ → List ℕ
-bytesOf [] = []
-bytesOf (n ∷ numbers) = littleEndian n ++ bytesOf numbers
-
 -- ---- "result not 28 bytes; before all others, nothing changed"
-
-abbrev pub isWhole : List ℕ → Bool
-isWhole result = eqb (length result) 28
 
 -- how many of the chain records a call writes, by the length of its result
 abbrev pub renewedIn : ℕ → ℕ → ℕ

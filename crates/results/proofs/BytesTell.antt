@@ -5,7 +5,7 @@ use Prim.Native.Nat.{ℕ, _+_, _*_, _/_, _%_, _^_, _<_}
 use native.Mathlib.Nat.{div-div-eq-div-mul}
 use native.Mathlib.Omega.{arith}
 use Rattle.model.specs.Lists.{All}
-use Rattle.structure_intake.specs.Results.{bytesOf}
+use Rattle.results.specs.Results.{bytesOf}
 
 -- the number of each four bytes, the lowest first
 abbrev pub numbersTold : List ℕ → List ℕ

@@ -1,19 +1,19 @@
 // What the host call answers: a number, and seven numbers in a lent result, four bytes each, the lowest first.
-use service::Answer;
+use crate::answers::Answer;
 ghost use mathlib.Core.Path.{_≡_};
 ghost use mathlib.Core.Bool.{true};
 ghost use Prim.Native.Nat.{_+_, _≤_};
 ghost use lib.ListN.{length};
 ghost use lib.Seq.{sets};
-ghost use Rattle.structure_intake.specs.Results.{statusIn, numbersIn, littleEndian, bytesOf, isWhole};
+ghost use Rattle.results.specs.Results.{statusIn, numbersIn, littleEndian, bytesOf, isWhole, toldIn};
 
-pub(crate) fn is_whole(result: &[u8]) -> bool
+pub fn is_whole(result: &[u8]) -> bool
     ensures { λ r. ⌜ r ≡ isWhole (now (result .entry)) ⌝ }
 {
     result.len() == 28
 }
 
-pub(crate) fn status_of(answer: Answer) -> u32
+pub fn status_of(answer: Answer) -> u32
     ensures { λ r. ⌜ r ≡ statusIn answer ⌝ }
 {
     match answer {
@@ -59,7 +59,7 @@ fn put_number(result: &mut [u8], at: usize, n: usize)
     result[at + 3] = (n / 0x1000000 % 256) as u8;
 }
 
-pub(crate) fn put_numbers(result: &mut [u8], answer: Answer)
+fn put_whole(result: &mut [u8], answer: Answer)
     requires { ⌜ isWhole (now result) ≡ true ⌝ }
     ensures { λ _. ⌜ now (result .exit) ≡ bytesOf (numbersIn answer) ⌝ }
 {
@@ -68,5 +68,14 @@ pub(crate) fn put_numbers(result: &mut [u8], answer: Answer)
     while k < 7 {
         put_number(result, 4 * k, numbers[k]);
         k += 1;
+    }
+}
+
+// A result of another length stays as it was.
+pub fn put_numbers(result: &mut [u8], answer: Answer)
+    ensures { λ _. ⌜ now (result .exit) ≡ toldIn (now (result .entry)) answer ⌝ }
+{
+    if is_whole(result) {
+        put_whole(result, answer);
     }
 }

@@ -2,10 +2,10 @@
 use mathlib.Core.Path.{sym, _∙_}
 use Prim.Native.Nat.{_-_}
 use native.Mathlib.Omega.{arith}
-use Rattle.structure_intake.proofs.ResultLaws.{whole-size, Putting, putting-starts, putting-on, putting-ends}
+use Rattle.results.proofs.ResultLaws.{whole-size, Putting, putting-starts, putting-on, putting-ends}
 use borrow.Author.Needs.{needs}
-use Rattle.structure_intake.proofs.results.put_numbers.Statement.{statement}
-use Rattle.structure_intake.proofs.results.put_numbers.Tie as tie
+use Rattle.results.proofs.results.put_whole.Statement.{statement}
+use Rattle.results.proofs.results.put_whole.Tie as tie
 
 abbrev Inv-loop : tie.InvT-loop
 Inv-loop result₀ numbers k₀ result k = Putting numbers result k
@@ -47,8 +47,8 @@ same-length c = c .before .loop .inv .size ∙ sym (whole-size (c .before .befor
 returns : tie.Need-returns Inv-loop μ-loop
 returns c = putting-ends (c .before .before .before .before .args .answer) _ _ _ (c .before .loop .inv) (c .loop-test .left) (c .before .before .numbers-of .ensures)
 
-pub put-numbers-spec : {M : Type 1} → statement M
-put-numbers-spec =
+pub put-whole-spec : {M : Type 1} → statement M
+put-whole-spec =
     tie.close
     (tie.spec
     Inv-loop

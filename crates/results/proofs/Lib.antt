@@ -1,0 +1,2 @@
+pub mod BytesTell
+pub mod ResultLaws
