@@ -1,5 +1,6 @@
 pub mod ActLaws
-pub mod Gathered
 pub mod LengthLaws
-pub mod PlanLaws
-pub mod UnderWay
+pub mod MadeByRows
+pub mod MadeOn
+pub mod RefusedAtTheFirst
+pub mod RowsGrow

@@ -1,2 +1,4 @@
-pub mod Lines
+pub mod Acts
+pub mod Earning
+pub mod Making
 pub mod Standing

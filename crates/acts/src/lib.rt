@@ -1,7 +1,8 @@
-// The lines of a text taken one after the other: what each asks for is done to the lent slices, up to the first refusal.
-mod plans;
-mod reading_lines;
+// What a text asks for, whatever its format, and what that does to the lent slices: a row skipped, a site kept, or a refusal.
+mod act;
+mod doing;
 
-pub use reading_lines::Halt;
-pub use reading_lines::Standing;
-pub use reading_lines::read_lines;
+pub use act::Act;
+pub use doing::Halt;
+pub use doing::Standing;
+pub use doing::do_act;

@@ -2,6 +2,7 @@
 use crate::sites::Counts;
 ghost use mathlib.Core.Path.{_≡_};
 ghost use Prim.Native.Nat.{_-_};
+ghost use Rattle.building.specs.Gaps.{noneHeld};
 
 pub struct Behind {
     pub residues: usize,
@@ -11,6 +12,27 @@ pub struct Behind {
 pub struct Held {
     pub counts: Counts,
     pub behind: Behind,
+}
+
+// Before the first row.
+pub fn none_held() -> Held
+    ensures { λ r. ⌜ r ≡ noneHeld ⌝ }
+{
+    Held {
+        counts: Counts {
+            chains: 0,
+            residues: 0,
+            atoms: 0,
+            rows: 0,
+            skipped: 0,
+            outdone: 0,
+            assumed: 0,
+        },
+        behind: Behind {
+            residues: 0,
+            atoms: 0,
+        },
+    }
 }
 
 // How many are left without so many of them; none where there are fewer.

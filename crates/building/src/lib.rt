@@ -10,6 +10,7 @@ mod sites;
 pub use gathering::gather;
 pub use held::Behind;
 pub use held::Held;
+pub use held::none_held;
 pub use sites::Counts;
 pub use sites::Put;
 pub use sites::put_site;

@@ -7,9 +7,10 @@ use Rattle.refusals.specs.Reasons.{numberOf, detailOf}
 use Rattle.rows.specs.Settings.{assuming}
 use Rattle.building.specs.declared.sites.Counts.{Counts}
 use Rattle.model.specs.Lent.{Lent, roomOf}
-use Rattle.reader.specs.Reading.{readOf, answerOf, leftBy}
-use Rattle.reader.specs.declared.answers.Answer.{Answer}
-use Rattle.reader.specs.declared.answers.Answer.the-variants.{Read, Refused}
+use Rattle.readings.specs.Reading.{answerOf, leftBy}
+use Rattle.reader.specs.Reading.{readOf}
+use Rattle.readings.specs.declared.answers.Answer.{Answer}
+use Rattle.readings.specs.declared.answers.Answer.the-variants.{Read, Refused}
 
 abbrev pub numberIn : Answer → ℕ
 numberIn (Read counts) = 0

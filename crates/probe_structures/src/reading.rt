@@ -2,7 +2,7 @@
 use building::Counts;
 use chains::Chain;
 use field_slices::store_u64;
-use reader::Answer;
+use readings::Answer;
 ghost use mathlib.Core.Path.{_≡_};
 ghost use lib.Seq.{sets};
 ghost use Rattle.chains.specs.Names.{namesAt};

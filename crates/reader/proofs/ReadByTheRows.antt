@@ -1,144 +1,103 @@
--- Demand 2 over texts. Each line that is read leaves what its row, if it is one, makes of the model; so a text that is read gives the model of its rows, which
--- the rules of document 01 decide.
-use mathlib.Core.Path.{_≡_, refl, sym, ap, _∙_, subst}
+-- Demand 2 over texts. What is read is the model of the rows among the text's acts, and these are the rows of the text, by its states and the row rules.
+use mathlib.Core.Path.{_≡_, sym, ap, _∙_, subst}
 use mathlib.Core.Logic.{_↔_}
-use mathlib.Core.List.{List, [], _∷_, _++_}
-use mathlib.Core.Option.{Option, none, some}
-use Prim.Native.Nat.{ℕ, suc, _+_}
+use mathlib.Core.List.{List}
+use Prim.Native.Nat.{ℕ, _+_}
 use Rattle.lines.specs.Lines.{linesOf}
-use Rattle.line_states.specs.Heads.{startHeads}
-use Rattle.line_states.specs.declared.heads.Heads.{Heads}
-use Rattle.model.specs.Finished.{unknown, known, unknownIn, modelFrom, unless, finishedOf}
-use Rattle.model.specs.Fold.{State, start, step, run, modelOf}
-use Rattle.model.specs.Proper.{Proper}
-use Rattle.model.specs.Records.{Model}
-use Rattle.model.specs.Room.{Fits, lacking}
-use Rattle.model.specs.Rules.{Ruled}
-use Rattle.model.specs.Sound.{Sound}
-use Rattle.model.specs.Taken.{Taken, skipped, site, sites}
-use Rattle.model.specs.declared.room.Lack.{Lack}
-use Rattle.model.specs.declared.room.Lack.the-variants.{Nothing, Of}
-use Rattle.model.specs.declared.room.Room.{Room}
-use Rattle.model.proofs.FoldKeepsRules.{fold-keeps-rules}
-use Rattle.model.proofs.ListLaws.{all-map}
-use Rattle.model.proofs.RoomLaws.{none-fits, fits-start}
-use Rattle.building.specs.declared.sites.Counts.{Counts}
-use Rattle.refusals.specs.declared.reasons.Reason.the-variants.{UnknownResidue}
-use Rattle.acts.specs.declared.plans.Act.{Act}
-use Rattle.acts.specs.declared.plans.Act.the-variants.{Pass, Skip, Keep, Refuse}
-use Rattle.acts.specs.declared.plans.Plan.{Plan}
-use Rattle.reader.specs.Exact.{NoneEarns, Admitted, ReadInto}
-use Rattle.acts.specs.Lines.{planOf, Progress, going, halted, within, done, lineRead, andThen, linesRead}
-use Rattle.reader.specs.Reading.{read, refused, countsOf, finished, atEnd, readOf}
-use Rattle.reader.specs.Rows.{rowIn, rowsFrom, rowsOf}
-use Rattle.reader.proofs.RefusalsAreExact.{admitted-text, unknown-residue, otherwise-read}
-use Rattle.reader.proofs.RefusedAtTheFirst.{going-not, halted-at-first, first-halts}
-use Rattle.reader.proofs.RowsAreSound.{rows-are-sound}
-use Rattle.rows.specs.declared.settings.Settings.{Settings}
 use Rattle.refusals.specs.Reasons.{at}
-
-run-append : (st : State) (l m : List Taken) → run st (l ++ m) ≡ run (run st l) m
-unfolding run
-run-append st [] m = refl
-run-append st (r ∷ l) m = run-append (step st r) l m
+use Rattle.refusals.specs.declared.reasons.Reason.the-variants.{UnknownResidue}
+use Rattle.rows.specs.declared.settings.Settings.{Settings}
+use Rattle.line_states.specs.Heads.{startHeads}
+use Rattle.model.specs.Finished.{unknown, known, finishedOf}
+use Rattle.model.specs.Fold.{State, start, modelOf}
+use Rattle.model.specs.Records.{Model}
+use Rattle.model.specs.Room.{Fits}
+use Rattle.model.specs.Rules.{Ruled}
+use Rattle.model.specs.Taken.{Taken}
+use Rattle.model.specs.declared.room.Room.{Room}
+use Rattle.building.specs.declared.sites.Counts.{Counts}
+use Rattle.acts.specs.Acts.{Asked, rowsIn, AllGoOn}
+use Rattle.acts.specs.Earning.{NoActEarns}
+use Rattle.acts.specs.Making.{going, made}
+use Rattle.acts.proofs.RefusedAtTheFirst.{done-exactly}
+use Rattle.readings.specs.Ends.{Admitted}
+use Rattle.readings.specs.Reading.{read, refused, countsOf, finished}
+use Rattle.readings.proofs.ReadByTheRows as acted
+use Rattle.mmcif.specs.Acts.{actsFrom, actsOf}
+use Rattle.mmcif.specs.Rows.{rowsOf}
+use Rattle.mmcif.proofs.RowsOfActs.{rows-of-acts}
+use Rattle.reader.specs.Exact.{NoneEarns, ReadInto}
+use Rattle.reader.specs.Reading.{readOf}
+use Rattle.reader.proofs.LinesEarn.{first-to-earn, acts-for-themselves}
+use Rattle.reader.proofs.RefusalsAreExact.{otherwise-read}
+use Rattle.reader.proofs.RowsAreSound.{acts-are-sound}
 
 module _ (settings : Settings) (room : Room) where
-  -- ---- one line
-  row-done : (number : ℕ) (heads : Heads) (st : State) (act : Act) (h : Heads) (s : State) → done room number heads st act ≡ going h s
-      → (heads ≡ h) × (run st (rowIn act) ≡ s) × (Fits room st → Fits room s)
-  unfolding run lacking
-  row-done number heads st Pass h s e = let q : st ≡ s = cc in (cc, q, subst (Fits room) q)
-  row-done number heads st Skip h s e = let q : step st skipped ≡ s = cc in (cc, q, λ f. subst (Fits room) q (none-fits room st skipped f refl))
-  row-done number heads st (Keep x) h s e = go (lacking room st (site x)) refl e
-    where
-      go : (n : Lack) → lacking room st (site x) ≡ n → within number n (going heads (step st (site x))) ≡ going h s → (heads ≡ h) × (step st (site x) ≡ s) × (Fits room st → Fits room s)
-      go Nothing n e = let q : step st (site x) ≡ s = cc in (cc, q, λ f. subst (Fits room) q (none-fits room st (site x) f n))
-      go (Of lack) n e = going-not (sym e)
-  row-done number heads st (Refuse why) h s e = going-not (sym e)
-
-  -- ---- all lines
-  rows-done : (number : ℕ) (heads : Heads) (st : State) (lines : List (List ℕ)) (h : Heads) (s : State) → linesRead settings room number heads st lines ≡ going h s
-      → (s ≡ run st (rowsFrom settings heads lines)) × (Fits room st → Fits room s)
-  unfolding linesRead lineRead rowsFrom run
-  rows-done number heads st [] h s e = let q : st ≡ s = cc in (sym q, subst (Fits room) q)
-  rows-done number heads st (line ∷ lines) h s e = go (done room number (plan .heads) st (plan .act)) refl e (λ g t. rows-done (suc number) g t lines h s)
-    where
-      plan : Plan
-      plan = planOf settings heads line
-
-      go : (p : Progress) → done room number (plan .heads) st (plan .act) ≡ p → andThen p (λ g t. linesRead settings room (suc number) g t lines) ≡ going h s
-          → ((g : Heads) (t : State) → linesRead settings room (suc number) g t lines ≡ going h s → (s ≡ run t (rowsFrom settings g lines)) × (Fits room t → Fits room s))
-          → (s ≡ run st (rowIn (plan .act) ++ rowsFrom settings (plan .heads) lines)) × (Fits room st → Fits room s)
-      go (going g t) p e later =
-          let here = row-done number (plan .heads) st (plan .act) g t p in
-          let rest = later g t e in (
-            rest .0
-                ∙ sym (run-append st (rowIn (plan .act)) (rowsFrom settings (plan .heads) lines) ∙ λ i. run (here .1 i) (rowsFrom settings (here .0 i) lines)),
-            λ f. rest .1 (here .2 f),
-          )
-      go (halted why) p e later = going-not (sym e)
+  -- no line earns a refusal exactly where no act does
+  none-earns : (lines : List (List ℕ)) → NoActEarns room (actsFrom settings 1 startHeads lines) ↔ NoneEarns settings room lines
+  none-earns lines = (λ n why f. n why (first-to-earn settings room lines why .1 f), λ n why f. n why (first-to-earn settings room lines why .0 f))
 
   -- lines are read to their end exactly where none earns a refusal
-  pub all-lines-read : (lines : List (List ℕ)) → ((heads : Heads) × (st : State) × (linesRead settings room 1 startHeads start lines ≡ going heads st)) ↔ NoneEarns settings room lines
-  all-lines-read lines = (λ r why f. going-not (sym (r .2) ∙ first-halts settings room lines why f), go (linesRead settings room 1 startHeads start lines) refl)
-    where
-      go : (p : Progress) → linesRead settings room 1 startHeads start lines ≡ p → NoneEarns settings room lines
-          → (heads : Heads) × (st : State) × (linesRead settings room 1 startHeads start lines ≡ going heads st)
-      go (going heads st) e n = (heads, st, e)
-      go (halted why) e n = absurd (n why (halted-at-first settings room lines why e))
+  pub all-lines-read : (lines : List (List ℕ)) → ((st : State) × (made room start (actsFrom settings 1 startHeads lines) ≡ going st)) ↔ NoneEarns settings room lines
+  all-lines-read lines =
+      let acts = actsFrom settings 1 startHeads lines in
+      (λ r. none-earns lines .0 (done-exactly room acts .0 r), λ n. done-exactly room acts .1 (none-earns lines .1 n))
 
   -- ---- texts
   module _ (text : List ℕ) where
-    abbrev model : State
-    model = modelOf (rowsOf settings text)
+    abbrev acts : List Asked
+    acts = actsOf settings text
+
+    abbrev lines : List (List ℕ)
+    lines = linesOf text
+
+    rows-are : AllGoOn acts → rowsIn acts ≡ rowsOf settings text
+    rows-are = rows-of-acts settings 1 startHeads lines
+
+    into-rows : (st : State) → ReadInto settings room text st → rowsIn acts ≡ rowsOf settings text
+    into-rows st r = rows-are (acted.model-of-rows room text acts st r .goes)
+
+    none-earned : Admitted text → NoneEarns settings room lines → rowsIn acts ≡ rowsOf settings text
+    none-earned a n = let (st, r) = acted.done-into room text acts a (none-earns lines .1 n) in into-rows st r
 
     pub model-of-rows : (st : State) → ReadInto settings room text st → (st ≡ modelOf (rowsOf settings text)) × Fits room st
-    model-of-rows st r = let d = rows-done 1 startHeads start (linesOf text) (r .heads) st (r .lines) in (d .0, d .1 (fits-start room))
-
-    ended : (st : State) → ReadInto settings room text st → (o : Option ℕ) → unknownIn (st .residues) ≡ o
-        → Admitted text × NoneEarns settings room (linesOf text) × (finishedOf model ≡ unless o (modelFrom st))
-    unfolding finishedOf
-    ended st r o u = (
-      r .admitted,
-      all-lines-read (linesOf text) .0 (r .heads, st, r .lines),
-      ap finishedOf (sym (model-of-rows st r .0)) ∙ ap (λ (o : Option ℕ). unless o (modelFrom st)) u,
-    )
+    model-of-rows st r = let m = acted.model-of-rows room text acts st r in (m .state ∙ ap modelOf (into-rows st r), m .fits)
 
     -- ---- the theorems
     -- a text that is not refused for its bytes or its lines ends as the model of its rows does
     pub read-to-the-end : Admitted text → NoneEarns settings room (linesOf text) → readOf settings room text ≡ finished (countsOf (modelOf (rowsOf settings text))) (finishedOf (modelOf (rowsOf settings text)))
     read-to-the-end a n =
-        let r = all-lines-read (linesOf text) .1 n in
-        let q = model-of-rows (r .1) (record { admitted = a; heads = r .0; lines = r .2 }) .0 in
-        admitted-text settings room text a ∙ ap atEnd (r .2) ∙ ap (λ (st : State). finished (countsOf st) (finishedOf st)) q
+        acted.read-to-the-end room text acts a (none-earns lines .1 n)
+        ∙ ap (λ (rows : List Taken). finished (countsOf (modelOf rows)) (finishedOf (modelOf rows))) (none-earned a n)
 
     pub read-exactly : (m : Model) (counts : Counts) → (readOf settings room text ≡ read m counts)
         ↔ (Admitted text × NoneEarns settings room (linesOf text) × (finishedOf (modelOf (rowsOf settings text)) ≡ known m) × (counts ≡ countsOf (modelOf (rowsOf settings text))))
     read-exactly m counts = (only, λ h. read-to-the-end (h .0) (h .1) ∙ λ i. finished (sym (h .3) i) (h .2 i))
       where
-        only : readOf settings room text ≡ read m counts → Admitted text × NoneEarns settings room (linesOf text) × (finishedOf model ≡ known m) × (counts ≡ countsOf model)
+        only : readOf settings room text ≡ read m counts → Admitted text × NoneEarns settings room lines × (finishedOf (modelOf (rowsOf settings text)) ≡ known m) × (counts ≡ countsOf (modelOf (rowsOf settings text)))
         only e =
-            let (st, r, u, m-is, counts-are) = otherwise-read settings room text m counts .0 e in
-            let h = ended st r none u in
-            (h .0, h .1, h .2 ∙ ap known (sym m-is), counts-are ∙ ap countsOf (model-of-rows st r .0))
+            let h = acted.read-exactly room text acts m counts .0 e in
+            let n = none-earns lines .0 (h .1) in
+            let rows = none-earned (h .0) n in
+            (h .0, n, ap (λ (l : List Taken). finishedOf (modelOf l)) (sym rows) ∙ h .2, h .3 ∙ ap (λ (l : List Taken). countsOf (modelOf l)) rows)
 
     pub unknown-exactly : (place : ℕ) → (readOf settings room text ≡ refused (at 0 (UnknownResidue place)))
         ↔ (Admitted text × NoneEarns settings room (linesOf text) × (finishedOf (modelOf (rowsOf settings text)) ≡ unknown place))
-    unknown-exactly place = (
-      λ e. let (st, r, u) = unknown-residue settings room text place .0 e in ended st r (some place) u,
-      λ h. read-to-the-end (h .0) (h .1) ∙ ap (finished (countsOf model)) (h .2),
-    )
+    unknown-exactly place = (only, λ h. read-to-the-end (h .0) (h .1) ∙ ap (finished (countsOf (modelOf (rowsOf settings text)))) (h .2))
+      where
+        only : readOf settings room text ≡ refused (at 0 (UnknownResidue place)) → Admitted text × NoneEarns settings room lines × (finishedOf (modelOf (rowsOf settings text)) ≡ unknown place)
+        only e =
+            let h = acted.unknown-exactly room text acts (acts-for-themselves settings 1 startHeads lines) place .0 e in
+            let n = none-earns lines .0 (h .1) in
+            (h .0, n, ap (λ (l : List Taken). finishedOf (modelOf l)) (sym (none-earned (h .0) n)) ∙ h .2)
 
     pub read-by-the-rows : (m : Model) (counts : Counts) → readOf settings room text ≡ read m counts
         → (finishedOf (modelOf (rowsOf settings text)) ≡ known m) × (counts ≡ countsOf (modelOf (rowsOf settings text))) × Ruled (rowsOf settings text) (modelOf (rowsOf settings text)) × Fits room (modelOf (rowsOf settings text))
     read-by-the-rows m counts e =
-        let (st, r, u, m-is, counts-are) = otherwise-read settings room text m counts .0 e in
-        let (is-model, fits) = model-of-rows st r in (
-          ended st r none u .2 ∙ ap known (sym m-is),
-          counts-are ∙ ap countsOf is-model,
-          fold-keeps-rules (rowsOf settings text) (all-map Sound Proper (λ s sound. sound .proper) (sites (rowsOf settings text)) (rows-are-sound settings text (r .admitted .inside))),
-          subst (Fits room) is-model fits,
-        )
+        let into = otherwise-read settings room text m counts .0 e in
+        let sound = acts-are-sound settings text (into .1 .admitted) (acted.model-of-rows room text acts (into .0) (into .1) .goes) in
+        subst (λ (rows : List Taken). (finishedOf (modelOf rows) ≡ known m) × (counts ≡ countsOf (modelOf rows)) × Ruled rows (modelOf rows) × Fits room (modelOf rows)) (into-rows (into .0) (into .1))
+        (acted.read-by-the-rows room text acts sound m counts e)
 
     -- rows = skipped + outdone + atoms
     pub rows-add-up : (m : Model) (counts : Counts) → readOf settings room text ≡ read m counts → counts .rows ≡ counts .skipped + counts .outdone + counts .atoms

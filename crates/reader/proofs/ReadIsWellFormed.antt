@@ -7,15 +7,18 @@ use Rattle.rows.specs.declared.settings.Settings.{Settings}
 use Rattle.model.specs.Records.{Model}
 use Rattle.model.specs.WellFormed.{wellFormed}
 use Rattle.model.specs.declared.room.Room.{Room}
-use Rattle.model.proofs.BuiltIsWellFormed.{built-is-well-formed}
 use Rattle.building.specs.declared.sites.Counts.{Counts}
-use Rattle.reader.specs.Reading.{read, readOf}
-use Rattle.reader.specs.Rows.{rowsOf}
-use Rattle.reader.proofs.ReadByTheRows.{read-exactly}
-use Rattle.reader.proofs.RowsAreSound.{rows-are-sound}
+use Rattle.readings.specs.Reading.{read}
+use Rattle.readings.proofs.ReadByTheRows.{model-of-rows}
+use Rattle.readings.proofs.ReadIsWellFormed as acted
+use Rattle.mmcif.specs.Acts.{actsOf}
+use Rattle.reader.specs.Reading.{readOf}
+use Rattle.reader.proofs.RefusalsAreExact.{otherwise-read}
+use Rattle.reader.proofs.RowsAreSound.{acts-are-sound}
 
 -- ---- the theorem
 pub read-is-well-formed : (settings : Settings) (room : Room) (text : List ℕ) (m : Model) (counts : Counts) → readOf settings room text ≡ read m counts → wellFormed m ≡ true
 read-is-well-formed settings room text m counts e =
-    let h = read-exactly settings room text m counts .0 e in
-    built-is-well-formed (rowsOf settings text) (rows-are-sound settings text (h .0 .inside)) m (h .2)
+    let acts = actsOf settings text in
+    let into = otherwise-read settings room text m counts .0 e in
+    acted.read-is-well-formed room text acts (acts-are-sound settings text (into .1 .admitted) (model-of-rows room text acts (into .0) (into .1) .goes)) m counts e

@@ -3,14 +3,12 @@ use mathlib.Core.Path.{_≡_}
 use mathlib.Core.List.{List, _∷_, _++_}
 use Prim.Native.Nat.{ℕ, suc, _≤_, _<_}
 use lib.ListN.{length}
-use Rattle.lines.specs.Domain.{outsideOf}
-use Rattle.lines.specs.Lines.{linesOf}
-use Rattle.lines.specs.declared.domain.Outside.the-variants.{None}
 use Rattle.refusals.specs.Reasons.{at}
 use Rattle.refusals.specs.declared.details.RecordKind.{RecordKind}
 use Rattle.refusals.specs.declared.reasons.Reason.{Reason}
 use Rattle.refusals.specs.declared.reasons.Reason.the-variants.{LineTooLong, TooManyHeaders, NoRoom}
 use Rattle.refusals.specs.declared.reasons.Refusal.{Refusal}
+use Rattle.tokens.specs.Longest.{longest}
 use Rattle.rows.specs.declared.rules.Row.the-variants.{Refused, Kept}
 use Rattle.rows.specs.declared.rules.Site.{Site}
 use Rattle.rows.specs.Fields.{fieldsOf}
@@ -25,9 +23,9 @@ use Rattle.model.specs.Room.{lacking}
 use Rattle.model.specs.Taken.{site}
 use Rattle.model.specs.declared.room.Lack.the-variants.{Of}
 use Rattle.model.specs.declared.room.Room.{Room}
-use Rattle.tokens.specs.Longest.{longest}
-use Rattle.acts.specs.Lines.{going, linesRead}
-use Rattle.reader.specs.Reading.{largest}
+use Rattle.acts.specs.Making.{going, made}
+use Rattle.readings.specs.Ends.{DoneInto}
+use Rattle.mmcif.specs.Acts.{headsAfter, actsFrom, actsOf}
 
 -- a line that is a row: the columns of its loop say what its fields are
 pub record IsRow (heads : Heads) (line : List ℕ) : Type 0 where
@@ -49,23 +47,15 @@ pub record FirstToEarn (settings : Settings) (room : Room) (lines : List (List �
   pub line : List ℕ
   pub after : List (List ℕ)
   pub among : lines ≡ before ++ line ∷ after
-  pub heads : Heads
   pub st : State
   -- the lines before it are read
-  pub read : linesRead settings room 1 startHeads start before ≡ going heads st
-  pub earns : Earns settings room (suc (length before)) heads st line why
+  pub read : made room start (actsFrom settings 1 startHeads before) ≡ going st
+  pub earns : Earns settings room (suc (length before)) (headsAfter startHeads before) st line why
 
 -- no line earns one
 abbrev pub NoneEarns : Settings → Room → List (List ℕ) → Type 0
 NoneEarns settings room lines = (why : Refusal) → FirstToEarn settings room lines why → ⊥
 
--- a text that 1 and 2 let pass
-pub record Admitted (text : List ℕ) : Type 0 where
-  pub short : length text ≤ largest
-  pub inside : outsideOf text ≡ None
-
--- and all its lines are read, and leave this state
-pub record ReadInto (settings : Settings) (room : Room) (text : List ℕ) (st : State) : Type 0 where
-  pub admitted : Admitted text
-  pub heads : Heads
-  pub lines : linesRead settings room 1 startHeads start (linesOf text) ≡ going heads st
+-- 1 and 2 let the text pass, and all its lines are read, and leave this state
+abbrev pub ReadInto : Settings → Room → List ℕ → State → Type 0
+ReadInto settings room text st = DoneInto room text (actsOf settings text) st

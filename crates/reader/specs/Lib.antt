@@ -1,4 +1,2 @@
-pub mod Closing
 pub mod Exact
 pub mod Reading
-pub mod Rows

@@ -6,7 +6,7 @@ use crate::records_said::say_residues;
 use crate::say::say;
 use crate::say::say_number;
 use building::Counts;
-use reader::Answer;
+use readings::Answer;
 use refusals::Refusal;
 
 fn say_refusal(why: Refusal) {

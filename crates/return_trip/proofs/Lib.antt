@@ -6,7 +6,7 @@ pub mod FinishAgain
 pub mod FixedLines
 pub mod FoldAgain
 pub mod LinesAgain
-pub mod LinesRead
+pub mod LinesGive
 pub mod ListRowsAgain
 pub mod MapsAgain
 pub mod NamesAgain

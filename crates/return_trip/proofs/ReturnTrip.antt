@@ -3,7 +3,7 @@
 use Prim.{tt}
 use mathlib.Core.Path.{_≡_, refl, sym, ap, _∙_, subst}
 use mathlib.Core.Bool.{true}
-use mathlib.Core.List.{List, [], _∷_, _++_, map, List·Memᴰ}
+use mathlib.Core.List.{List, [], _∷_, _++_, map, append-nil, List·Memᴰ}
 use Prim.Native.Nat.{ℕ, suc, _≤_}
 use native.Mathlib.Nat.{le-refl}
 use lib.ListN.{length, length-map}
@@ -19,15 +19,21 @@ use Rattle.model.specs.Fold.{State, start, modelOf}
 use Rattle.model.specs.Lists.{All}
 use Rattle.model.specs.Records.{ResidueRecord, AtomRecord, Model}
 use Rattle.model.specs.Room.{Fits}
+use Rattle.model.specs.Taken.{Taken}
 use Rattle.model.specs.Termini.{isPolymer}
 use Rattle.model.specs.WellFormed.{wellFormed}
 use Rattle.model.specs.declared.room.Room.{Room}
 use Rattle.model.proofs.ListLaws.{all-of, all-append, filter-mem}
-use Rattle.acts.specs.Lines.{going, linesRead}
-use Rattle.reader.specs.Exact.{Admitted}
-use Rattle.reader.specs.Reading.{largest, read, countsOf, finished, atEnd, readOf}
+use Rattle.acts.specs.Acts.{rowsIn}
+use Rattle.acts.specs.Making.{going, made}
+use Rattle.acts.proofs.MadeByRows.{goes-made}
+use Rattle.readings.specs.Ends.{Admitted}
+use Rattle.readings.specs.Reading.{largest, read, countsOf, finished, atEnd}
+use Rattle.readings.proofs.RefusalsAreExact.{admitted-text}
+use Rattle.mmcif.specs.Acts.{actsFrom, actsOf}
+use Rattle.mmcif.proofs.RowsOfActs.{rows-of-acts}
+use Rattle.reader.specs.Reading.{readOf}
 use Rattle.reader.proofs.ReadIsWellFormed.{read-is-well-formed}
-use Rattle.reader.proofs.RefusalsAreExact.{admitted-text}
 use Rattle.writer.specs.Text.{atomRowOf, polymerRowOf, opening, closing, polymerHeaders, atomHeaders, textOf}
 use Rattle.writer.specs.Unwritable.{firstUnwritable}
 use Rattle.return_trip.specs.Returned.{returned, returnedCounts, AsMany}
@@ -37,7 +43,7 @@ use Rattle.return_trip.proofs.FinishAgain.{finish-again}
 use Rattle.return_trip.proofs.FoldAgain.{takenOf, residueEntry, atomEntry, stateIn, fold-again}
 use Rattle.return_trip.proofs.FixedLines.{loopHeads}
 use Rattle.return_trip.proofs.LinesAgain.{lines-are-text, lines-again, lines-inside}
-use Rattle.return_trip.proofs.LinesRead.{numberAfter, read-on, opening-read, closing-read, loop-headers-read, list-read, atoms-read}
+use Rattle.return_trip.proofs.LinesGive.{Give, give-on, opening-gives, closing-gives, loop-headers-give, list-gives, atoms-give}
 use Rattle.return_trip.proofs.ListRowsAgain.{list-row-is-text}
 use Rattle.return_trip.proofs.RowsAgain.{RowSo, row-is-text}
 use Rattle.return_trip.proofs.RowsWritable.{AtomWritable, atoms-writable, row-so, residue-name}
@@ -97,23 +103,20 @@ module _ (m : Model) (formed : wellFormed m ≡ true) (can : firstUnwritable m 1
       atoms = subst (λ (n : ℕ). n ≤ room .atoms) (sym (length-map (m .atoms) atomEntry)) (many .atoms);
     })
 
-    all-read : (heads : Heads) × (linesRead settings room 1 startHeads start (linesIn m) ≡ going heads (modelOf (takenOf m (m .atoms))))
+    -- and what they give is a row to each atom
+    all-given : (heads : Heads) × Give settings startHeads (linesIn m) heads (takenOf m (m .atoms))
+    all-given =
+        let list = list-gives settings m (polymers (m .residues)) names-so in
+        let atoms = atoms-give settings m loopHeads 1 (m .atoms) rows-so refl in
+        let all = give-on settings (opening-gives settings) (give-on settings (list .1) (give-on settings (loop-headers-give settings (list .0)) (give-on settings (atoms .1) (closing-gives settings (atoms .0))))) in
+        (atoms .0, subst (Give settings startHeads (linesIn m) (atoms .0)) (append-nil (takenOf m (m .atoms))) all)
+
+    all-read : made room start (actsFrom settings 1 startHeads (linesIn m)) ≡ going (modelOf (takenOf m (m .atoms)))
     all-read =
-        let listed = polymerPart (map (polymerLine m) (polymers (m .residues))) in
-        let rows = atomLines m 1 (m .atoms) in
-        let n₁ = numberAfter 1 opening in
-        let n₂ = numberAfter n₁ listed in
-        let n₃ = numberAfter n₂ atomHeaders in
-        let n₄ = numberAfter n₃ rows in
-        let list = list-read settings room m n₁ start (polymers (m .residues)) names-so in
-        let atoms = atoms-read settings room m n₃ loopHeads start 1 (m .atoms) rows-so refl fits in (
-          atoms .0,
-          read-on settings room 1 startHeads start opening (listed ++ (atomHeaders ++ (rows ++ closing))) startHeads start (opening-read settings room 1 start)
-              ∙ read-on settings room n₁ startHeads start listed (atomHeaders ++ (rows ++ closing)) (list .0) start (list .1)
-              ∙ read-on settings room n₂ (list .0) start atomHeaders (rows ++ closing) loopHeads start (loop-headers-read settings room n₂ (list .0) start)
-              ∙ read-on settings room n₃ loopHeads start rows closing (atoms .0) (modelOf (takenOf m (m .atoms))) (atoms .1)
-              ∙ closing-read settings room n₄ (atoms .0) (modelOf (takenOf m (m .atoms))),
-        )
+        let given = all-given .1 in
+        let acts = actsFrom settings 1 startHeads (linesIn m) in
+        let rows : rowsIn acts ≡ takenOf m (m .atoms) = rows-of-acts settings 1 startHeads (linesIn m) (given .goes 1) ∙ given .taken in
+        goes-made room start acts (given .goes 1) (subst (λ (l : List Taken). Fits room (modelOf l)) (sym rows) fits) ∙ ap (λ (l : List Taken). going (modelOf l)) rows
 
     counts-again : countsOf (stateIn m) ≡ returnedCounts m
     counts-again = λ i. record {
@@ -129,9 +132,9 @@ module _ (m : Model) (formed : wellFormed m ≡ true) (can : firstUnwritable m 1
     -- ---- the theorem
     pub return-trip : length (textOf m) ≤ largest → readOf settings room (textOf m) ≡ read (returned m) (returnedCounts m)
     return-trip short =
-        admitted-text settings room (textOf m) (admitted short)
-        ∙ ap (λ (lines : List (List ℕ)). atEnd (linesRead settings room 1 startHeads start lines)) lines-are
-        ∙ ap atEnd (all-read .1)
+        admitted-text room (textOf m) (actsOf settings (textOf m)) (admitted short)
+        ∙ ap (λ (lines : List (List ℕ)). atEnd (made room start (actsFrom settings 1 startHeads lines))) lines-are
+        ∙ ap atEnd all-read
         ∙ ap (λ (st : State). finished (countsOf st) (finishedOf st)) (fold-again m w)
         ∙ ap (λ (f : Finished). finished (countsOf (stateIn m)) f) (finish-again m w)
         ∙ ap (read (returned m)) counts-again

@@ -36,7 +36,8 @@ use Rattle.model.specs.Records.{Model}
 use Rattle.model.specs.Termini.{isPolymer, isFirst, isLast, ruledPosition}
 use Rattle.model.specs.WellFormed.{runsAfter, differ, isName, isCode, chainsWell, classWell, residueWell, atomWell, inRuns, inOrder, wellFormed}
 use Rattle.model.specs.declared.room.Room.{Room}
-use Rattle.reader.specs.Reading.{largest, read, readOf}
+use Rattle.readings.specs.Reading.{largest, read}
+use Rattle.reader.specs.Reading.{readOf}
 use Rattle.row_texts.specs.Fields.{sequenceText, codeText, groupText, numberText}
 use Rattle.row_texts.specs.Rows.{atomText, polymerText}
 use Rattle.writer.specs.Text.{linesText, numberIn, residueFor, atomRows, polymerRows, textOf}

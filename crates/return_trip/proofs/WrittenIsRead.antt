@@ -21,9 +21,9 @@ use Rattle.model.specs.Records.{Model}
 use Rattle.model.specs.declared.room.Room.{Room}
 use Rattle.model.specs.WellFormed.{wellFormed, countsFit, wellFormedIn}
 use Rattle.model.proofs.ListLaws.{left-of, right-of}
-use Rattle.reader.specs.Closing.{ReadBy}
-use Rattle.reader.specs.Reading.{largest, read, readOf, answerOf, leftBy}
-use Rattle.reader.specs.declared.answers.Answer.{Answer}
+use Rattle.readings.specs.Reading.{largest, read, answerOf, leftBy}
+use Rattle.readings.specs.declared.answers.Answer.{Answer}
+use Rattle.reader.specs.Reading.{readOf, ReadBy}
 use Rattle.row_texts.specs.Fields.{coordinateText}
 use Rattle.writer.specs.Text.{textOf}
 use Rattle.writer.specs.Unwritable.{firstUnwritable}

@@ -5,7 +5,7 @@ use Prim.Native.Nat.{ℕ}
 use Rattle.rows.specs.declared.settings.Settings.{Settings}
 use Rattle.row_order.specs.Loops.{standsAmongRows}
 use Rattle.row_order.specs.Order.{Reordered, DifferInOrder}
-use Rattle.row_order.proofs.ReorderedLaws.{every-reordered}
+use Rattle.readings.proofs.ReorderedLaws.{every-reordered}
 
 texts-either-way : {t u : List ℕ} → Reordered t u → Reordered u t
 texts-either-way r = record {

@@ -1,14 +1,12 @@
+pub mod ActsOfLoop
 pub mod CountsOverRows
 pub mod DomainByLines
 pub mod EitherWay
 pub mod EndingsDoNotMatter
-pub mod LinesGoOn
 pub mod LoopLaws
 pub mod LoopRows
 pub mod OrderOfReads
 pub mod OrderOfTexts
 pub mod OrderWithinLoop
-pub mod ReorderedLaws
-pub mod SameRows
 pub mod WorkedOrder
 pub mod WorkedTexts

@@ -1,12 +1,15 @@
 -- Where the rows of an atom loop stand, what a line does hangs on the loop's columns alone, and not on the lines before it. So the order of the lines matters
--- neither for whether they are refused for themselves nor for the state that they leave, and the rows come as the lines do.
-use Prim.{tt}
-use mathlib.Core.Path.{_≡_, refl, sym, ap, _∙_, subst}
-use mathlib.Core.Bool.{Bool, true, false, cond, _||_}
-use mathlib.Core.List.{List, [], _∷_, _++_}
-use Prim.Native.Nat.{ℕ, _≤_}
+-- neither for what each asks for nor for the state that they leave, and the rows come as the lines do.
+use mathlib.Core.Path.{_≡_, refl, ap, _∙_}
+use mathlib.Core.Bool.{Bool, true, false, _||_, cond}
+use mathlib.Core.List.{List, [], _∷_, _++_, map}
+use Prim.Native.Nat.{ℕ, suc, _≤_}
+use lib.Dec.{ltb}
 use lib.ListN.{length}
+use borrow.Author.Tests.{ltb-false, le-ltb}
 use Rattle.ascii.specs.Lists.{every}
+use Rattle.refusals.specs.declared.reasons.Reason.the-variants.{LineTooLong}
+use Rattle.tokens.specs.Longest.{longest}
 use Rattle.rows.specs.Fields.{fieldsOf}
 use Rattle.rows.specs.Rules.{rowOf}
 use Rattle.rows.specs.declared.columns.Columns.{Columns}
@@ -20,17 +23,15 @@ use Rattle.line_states.specs.declared.heads.State.the-variants.{AtomLoop}
 use Rattle.line_states.specs.declared.reading.Does.{Does}
 use Rattle.line_states.specs.declared.reading.Does.the-variants.{Nothing}
 use Rattle.line_states.specs.declared.reading.Moved.{Moved}
-use Rattle.model.specs.Lists.{any, All}
+use Rattle.model.specs.Lists.{any}
 use Rattle.model.proofs.ListLaws.{left-of, right-of}
-use Rattle.tokens.specs.Longest.{longest}
-use Rattle.acts.specs.Lines.{actOf, planBy, planOf}
-use Rattle.acts.specs.declared.plans.Act.{Act}
-use Rattle.acts.specs.declared.plans.Act.the-variants.{Pass}
-use Rattle.acts.specs.declared.plans.Plan.{Plan}
-use Rattle.acts.proofs.PlanLaws.{plan-within}
-use Rattle.reader.specs.Rows.{rowIn, rowsFrom}
-use Rattle.row_order.specs.Loops.{isRow, standsAmongRows, headsAfter, awaitsRows, rowTaken, givenBy, givenIn}
-use Rattle.row_order.proofs.LinesGoOn.{GoesOn, short-enough, AllGoOn, rows-on}
+use Rattle.acts.specs.Acts.{rowIn, GoesOn}
+use Rattle.acts.specs.declared.act.Act.{Act}
+use Rattle.acts.specs.declared.act.Act.the-variants.{Pass, Refuse}
+use Rattle.readings.specs.Order.{actsIn}
+use Rattle.mmcif.specs.Acts.{rowAct, movedAct, lineAct, headsAfter, actsFrom}
+use Rattle.mmcif.specs.Rows.{rowTaken, takenBy, rowsFrom}
+use Rattle.row_order.specs.Loops.{isRow, standsAmongRows, awaitsRows, givenBy, givenIn}
 use Rattle.row_order.proofs.LoopLaws.{among-moves}
 
 -- ---- the state after a line
@@ -74,72 +75,68 @@ loop-heads heads a (line ∷ lines) e =
     ∙ opened-twice (isRow line) (any isRow lines) heads
 
 module _ (settings : Settings) (columns : Columns) where
-  -- ---- what a line asks for, and that it is not refused for itself
-  abbrev asked : List ℕ → Act
-  asked line = cond (isRow line) (actOf (rowOf settings (fieldsOf columns line))) Pass
-
-  abbrev pub Unrefused : List ℕ → Type 0
-  Unrefused line = (length line ≤ longest) × GoesOn (asked line)
+  -- ---- what a line asks for
+  abbrev pub actIn : List ℕ → Act
+  actIn line = cond (ltb longest (length line)) (Refuse LineTooLong) (cond (isRow line) (rowAct (rowOf settings (fieldsOf columns line))) Pass)
 
   -- ---- one line
   module _ (heads : Heads) (same : heads .columns ≡ columns) (awaits : awaitsRows heads ≡ true) (line : List ℕ) (among : standsAmongRows line ≡ true) where
-    abbrev act : Act
-    act = planOf settings heads line .act
+    abbrev deed : Bool → Moved
+    deed b = cond b (moved (inState AtomLoop heads) Does.Row) (moved heads Nothing)
 
-    act-is : length line ≤ longest → act ≡ asked line
-    act-is h = ap (λ (p : Plan). p .act) (plan-within settings heads line h) ∙ ap (λ (m : Moved). planBy settings line m .act) (among-moves heads awaits line among) ∙ go (isRow line)
+    act-is : lineAct settings heads line ≡ actIn line
+    unfolding lineAct
+    act-is = ap (cond (ltb longest (length line)) (Refuse LineTooLong)) (ap (movedAct settings line) (among-moves heads awaits line among) ∙ go (isRow line))
       where
-        go : (b : Bool) → planBy settings line (cond b (moved (inState AtomLoop heads) Does.Row) (moved heads Nothing)) .act ≡ cond b (actOf (rowOf settings (fieldsOf columns line))) Pass
-        go true = ap (λ (c : Columns). actOf (rowOf settings (fieldsOf c line))) same
+        go : (b : Bool) → movedAct settings line (deed b) ≡ cond b (rowAct (rowOf settings (fieldsOf columns line))) Pass
+        go true = ap (λ (c : Columns). rowAct (rowOf settings (fieldsOf c line))) same
         go false = refl
 
-    goes-unrefused : GoesOn act → Unrefused line
-    goes-unrefused g = let h = short-enough settings heads line g in (h, subst GoesOn (act-is h) g)
-
-    unrefused-goes : Unrefused line → GoesOn act
-    unrefused-goes u = subst GoesOn (sym (act-is (u .0))) (u .1)
-
-    row-is : length line ≤ longest → rowIn act ≡ givenBy settings columns line
-    row-is h = ap rowIn (act-is h) ∙ go (isRow line) (rowOf settings (fieldsOf columns line))
+    row-is : takenBy (movedBy heads line .does) (rowOf settings (fieldsOf (movedBy heads line .heads .columns) line)) ≡ givenBy settings columns line
+    row-is = ap (λ (m : Moved). takenBy (m .does) (rowOf settings (fieldsOf (m .heads .columns) line))) (among-moves heads awaits line among) ∙ go (isRow line)
       where
-        go : (b : Bool) (r : Row) → rowIn (cond b (actOf r) Pass) ≡ cond b (rowTaken r) []
-        go true (Refused why) = refl
-        go true Skipped = refl
-        go true (Kept s) = refl
-        go false r = refl
+        go : (b : Bool) → takenBy (deed b .does) (rowOf settings (fieldsOf (deed b .heads .columns) line)) ≡ cond b (rowTaken (rowOf settings (fieldsOf columns line))) []
+        go true = ap (λ (c : Columns). rowTaken (rowOf settings (fieldsOf c line))) same
+        go false = refl
 
   -- ---- all lines
-  pub loop-unrefused : (heads : Heads) → heads .columns ≡ columns → awaitsRows heads ≡ true → (lines : List (List ℕ)) → every standsAmongRows lines ≡ true
-      → AllGoOn settings heads lines → All Unrefused lines
-  unfolding AllGoOn
-  loop-unrefused heads c a [] e g = tt
-  loop-unrefused heads c a (line ∷ lines) e g =
-      let here = left-of (standsAmongRows line) (every standsAmongRows lines) e in (
-        goes-unrefused heads c a line here (g .0),
-        loop-unrefused (movedBy heads line .heads) (columns-stay heads a line here ∙ c) (awaits-still heads a line here) lines
-            (right-of (standsAmongRows line) (every standsAmongRows lines) e) (g .1),
-      )
-
-  pub loop-goes-on : (heads : Heads) → heads .columns ≡ columns → awaitsRows heads ≡ true → (lines : List (List ℕ)) → every standsAmongRows lines ≡ true
-      → All Unrefused lines → AllGoOn settings heads lines
-  unfolding AllGoOn
-  loop-goes-on heads c a [] e u = tt
-  loop-goes-on heads c a (line ∷ lines) e u =
-      let here = left-of (standsAmongRows line) (every standsAmongRows lines) e in (
-        unrefused-goes heads c a line here (u .0),
-        loop-goes-on (movedBy heads line .heads) (columns-stay heads a line here ∙ c) (awaits-still heads a line here) lines
-            (right-of (standsAmongRows line) (every standsAmongRows lines) e) (u .1),
-      )
+  pub loop-acts : (number : ℕ) (heads : Heads) → heads .columns ≡ columns → awaitsRows heads ≡ true → (lines : List (List ℕ)) → every standsAmongRows lines ≡ true
+      → actsIn (actsFrom settings number heads lines) ≡ map actIn lines
+  unfolding actsFrom
+  loop-acts number heads c a [] e = refl
+  loop-acts number heads c a (line ∷ lines) e =
+      let here = left-of (standsAmongRows line) (every standsAmongRows lines) e in
+      let rest =
+      loop-acts (suc number) (movedBy heads line .heads) (columns-stay heads a line here ∙ c) (awaits-still heads a line here) lines
+      (right-of (standsAmongRows line) (every standsAmongRows lines) e)
+      in
+      λ i. act-is heads c a line here i ∷ rest i
 
   pub loop-rows : (heads : Heads) → heads .columns ≡ columns → awaitsRows heads ≡ true → (lines : List (List ℕ)) → every standsAmongRows lines ≡ true
-      → All Unrefused lines → rowsFrom settings heads lines ≡ givenIn settings columns lines
+      → rowsFrom settings heads lines ≡ givenIn settings columns lines
   unfolding rowsFrom
-  loop-rows heads c a [] e u = refl
-  loop-rows heads c a (line ∷ lines) e u =
+  loop-rows heads c a [] e = refl
+  loop-rows heads c a (line ∷ lines) e =
       let here = left-of (standsAmongRows line) (every standsAmongRows lines) e in
       let rest =
       loop-rows (movedBy heads line .heads) (columns-stay heads a line here ∙ c) (awaits-still heads a line here) lines
-      (right-of (standsAmongRows line) (every standsAmongRows lines) e) (u .1)
+      (right-of (standsAmongRows line) (every standsAmongRows lines) e)
       in
-      rows-on settings heads line lines (unrefused-goes heads c a line here (u .0))
-      ∙ λ i. row-is heads c a line here (u .0 .0) i ++ rest i
+      λ i. row-is heads c a line here i ++ rest i
+
+  -- ---- an act that does not refuse is that of a line short enough, and gives what the line gives
+  pub in-short : (line : List ℕ) → GoesOn (actIn line) → length line ≤ longest
+  in-short line g = go (ltb longest (length line)) (ltb-false longest (length line)) g
+    where
+      go : (b : Bool) → (b ≡ false → length line ≤ longest) → GoesOn (cond b (Refuse LineTooLong) (cond (isRow line) (rowAct (rowOf settings (fieldsOf columns line))) Pass)) → length line ≤ longest
+      go true h g = absurd g
+      go false h g = h refl
+
+  pub in-given : (line : List ℕ) → length line ≤ longest → rowIn (actIn line) ≡ givenBy settings columns line
+  in-given line h = ap (λ (b : Bool). rowIn (cond b (Refuse LineTooLong) (cond (isRow line) (rowAct (rowOf settings (fieldsOf columns line))) Pass))) (le-ltb longest (length line) h) ∙ go (isRow line) (rowOf settings (fieldsOf columns line))
+    where
+      go : (b : Bool) (r : Row) → rowIn (cond b (rowAct r) Pass) ≡ cond b (rowTaken r) []
+      go true (Refused why) = refl
+      go true Skipped = refl
+      go true (Kept s) = refl
+      go false r = refl

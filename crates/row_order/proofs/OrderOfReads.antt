@@ -6,10 +6,11 @@ use Rattle.rows.specs.declared.settings.Settings.{Settings}
 use Rattle.model.specs.Lent.{Lent, roomOf, holding, emptyModel}
 use Rattle.model.specs.Records.{Model}
 use Rattle.model.specs.declared.room.Room.{Room}
-use Rattle.reader.specs.Closing.{ReadBy}
-use Rattle.reader.specs.Reading.{Reading, read, refused, readOf, answerOf, leftBy}
-use Rattle.reader.specs.declared.answers.Answer.{Answer}
-use Rattle.row_order.specs.Ends.{ToTheEnd, AnsweredAtTheEnd, HoldAlike}
+use Rattle.readings.specs.Ends.{ToTheEnd}
+use Rattle.readings.specs.Reading.{Reading, read, refused, answerOf, leftBy}
+use Rattle.readings.specs.declared.answers.Answer.{Answer}
+use Rattle.reader.specs.Reading.{readOf, ReadBy}
+use Rattle.row_order.specs.Ends.{AnsweredAtTheEnd, HoldAlike}
 use Rattle.row_order.specs.Order.{DifferInOrder}
 use Rattle.row_order.proofs.OrderOfTexts.{order-of-texts}
 

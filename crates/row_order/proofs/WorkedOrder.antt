@@ -22,9 +22,11 @@ use Rattle.model.specs.Lists.{filter, any, All}
 use Rattle.model.specs.Rules.{sameResidue, sameAtom, firstMet, firstOf}
 use Rattle.model.specs.Taken.{site, sites}
 use Rattle.model.proofs.ListLaws.{left-of, right-of, filter-append}
+use Rattle.readings.specs.Order.{ChainsMetAlike, ResiduesBeginAlike}
+use Rattle.mmcif.specs.Rows.{rowTaken}
 use Rattle.row_order.specs.Ends.{ReadAlike}
-use Rattle.row_order.specs.Loops.{isRow, rowTaken, givenBy, givenIn}
-use Rattle.row_order.specs.Order.{isRowOf, ChainsMetAlike, ResiduesBeginAlike, DifferInLoop}
+use Rattle.row_order.specs.Loops.{isRow, givenBy, givenIn}
+use Rattle.row_order.specs.Order.{isRowOf, DifferInLoop}
 use Rattle.row_order.proofs.OrderWithinLoop.{order-within-loop}
 use Rattle.row_order.proofs.WorkedTexts.{headers, carbon, comment, again, cell, oxygen, others, one, other, sizes, lines-are, other-lines-are, are-rows, all-among, opened, columns, chainAndSequence, found, columns-are, told, room, is-read}
 

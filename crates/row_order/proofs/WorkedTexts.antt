@@ -41,11 +41,13 @@ use Rattle.model.specs.Keys.{residueAt, atomAt}
 use Rattle.model.specs.Map.{find, put}
 use Rattle.model.specs.Room.{lacking}
 use Rattle.model.specs.declared.room.Room.{Room}
-use Rattle.acts.specs.Lines.{planOf, lineRead, linesRead}
-use Rattle.reader.specs.Reading.{largest, readOf}
+use Rattle.acts.specs.Making.{made}
+use Rattle.readings.specs.Ends.{ToTheEnd}
+use Rattle.readings.specs.Reading.{largest, readingOf}
+use Rattle.mmcif.specs.Acts.{lineAct, headsAfter, actsFrom}
+use Rattle.reader.specs.Reading.{readOf}
 use Rattle.row_order.specs.Endings.{Ending, feed, returnAndFeed, Ended, together}
-use Rattle.row_order.specs.Ends.{ToTheEnd}
-use Rattle.row_order.specs.Loops.{isRow, standsAmongRows, headsAfter, awaitsRows}
+use Rattle.row_order.specs.Loops.{isRow, standsAmongRows, awaitsRows}
 
 -- ---- the texts
 pub headers : List (List ℕ)
@@ -145,5 +147,5 @@ abbrev pub room : Room
 room = record { chains = 64; residues = 512; atoms = 1024 }
 
 pub is-read : ToTheEnd (readOf assuming room one)
-unfolding one together headers carbon comment again cell oxygen outsideFrom linesOf readOf linesRead lineRead planOf movedBy movedByToken tokensOf tokenAt scan trimStart trimEnd startsWith sameBytes itemNames placeIn fieldsOf hetatmAt insertionCodeAt occupancyAt elementAt firstAbsent misses reachOf named occupied located reached rowOf eqIgnoreCase sequenceOf packedIn symbols elementFrom elementOf digitRun allDigits numberFrom capped isSign afterSign isExponentLetter isWord isExponent parts afterWhole unsigned spellingOf allTogether withinReach readAs numberOf lacking step withChain chainPlace residueAt atomAt find put finishedOf unknownIn isUnknown resolveOf resolveIn canonical aliases
+unfolding one together headers carbon comment again cell oxygen outsideFrom linesOf readingOf made actsFrom lineAct movedBy movedByToken tokensOf tokenAt scan trimStart trimEnd startsWith sameBytes itemNames placeIn fieldsOf hetatmAt insertionCodeAt occupancyAt elementAt firstAbsent misses reachOf named occupied located reached rowOf eqIgnoreCase sequenceOf packedIn symbols elementFrom elementOf digitRun allDigits numberFrom capped isSign afterSign isExponentLetter isWord isExponent parts afterWhole unsigned spellingOf allTogether withinReach readAs numberOf lacking step withChain chainPlace residueAt atomAt find put finishedOf unknownIn isUnknown resolveOf resolveIn canonical aliases
 is-read = tt

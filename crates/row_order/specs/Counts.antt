@@ -16,7 +16,7 @@ use Rattle.model.specs.Records.{Model}
 use Rattle.model.specs.Rules.{outdoneIn, assumedIn}
 use Rattle.model.specs.Taken.{sites, skippedIn}
 use Rattle.building.specs.declared.sites.Counts.{Counts}
-use Rattle.reader.specs.Rows.{rowsOf}
+use Rattle.mmcif.specs.Rows.{rowsOf}
 
 -- how many lines are rows, by document 01's table of states
 abbrev pub isRowBy : Does → Bool

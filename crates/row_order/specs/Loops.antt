@@ -7,14 +7,12 @@ use Rattle.token_values.specs.Words.{isLoop, isCellItem, isItem}
 use Rattle.rows.specs.Fields.{fieldsOf}
 use Rattle.rows.specs.Rules.{rowOf}
 use Rattle.rows.specs.declared.columns.Columns.{Columns}
-use Rattle.rows.specs.declared.rules.Row.{Row}
-use Rattle.rows.specs.declared.rules.Row.the-variants.{Refused, Skipped, Kept}
 use Rattle.rows.specs.declared.settings.Settings.{Settings}
-use Rattle.line_states.specs.States.{movedBy}
 use Rattle.line_states.specs.declared.heads.Heads.{Heads}
 use Rattle.line_states.specs.declared.heads.State.{State}
 use Rattle.line_states.specs.declared.heads.State.the-variants.{Base, Header, AtomLoop, OtherLoop}
-use Rattle.model.specs.Taken.{Taken, skipped, site}
+use Rattle.model.specs.Taken.{Taken}
+use Rattle.mmcif.specs.Rows.{rowTaken}
 
 -- ---- lines, by their tokens
 
@@ -40,11 +38,6 @@ standsAmongRows line = isRow line || isPassedOver line
 
 -- ---- the state
 
--- after lines that are read
-unfoldable pub headsAfter : Heads → List (List ℕ) → Heads
-headsAfter heads [] = heads
-headsAfter heads (line ∷ lines) = headsAfter (movedBy heads line .heads) lines
-
 -- the headers of an atom loop have come, or some of its rows as well
 abbrev pub awaitsIn : State → Bool → Bool
 awaitsIn Base atoms = false
@@ -56,11 +49,6 @@ abbrev pub awaitsRows : Heads → Bool
 awaitsRows heads = awaitsIn (heads .state) (heads .«atom_site»)
 
 -- ---- what lines give to the model, in a loop of these columns
-
-abbrev pub rowTaken : Row → List Taken
-rowTaken (Refused why) = []
-rowTaken Skipped = skipped ∷ []
-rowTaken (Kept s) = site s ∷ []
 
 abbrev pub givenBy : Settings → Columns → List ℕ → List Taken
 givenBy settings columns line = cond (isRow line) (rowTaken (rowOf settings (fieldsOf columns line))) []

@@ -12,11 +12,12 @@ use Rattle.rows.specs.declared.settings.Settings.{Settings}
 use Rattle.line_states.specs.Heads.{startHeads}
 use Rattle.model.specs.Alike.{isOf}
 use Rattle.model.specs.Lists.{filter, any}
-use Rattle.model.specs.Rules.{sameResidue, firstMet, firstOf}
 use Rattle.model.specs.Taken.{sites}
-use Rattle.reader.specs.Reading.{largest}
-use Rattle.reader.specs.Rows.{rowsOf}
-use Rattle.row_order.specs.Loops.{standsAmongRows, headsAfter, awaitsRows, givenBy, givenIn}
+use Rattle.readings.specs.Order.{ChainsMetAlike, ResiduesBeginAlike}
+use Rattle.readings.specs.Reading.{largest}
+use Rattle.mmcif.specs.Acts.{headsAfter}
+use Rattle.mmcif.specs.Rows.{rowsOf}
+use Rattle.row_order.specs.Loops.{standsAmongRows, awaitsRows, givenBy, givenIn}
 
 -- ---- "two texts .. differ only in the order of the atom rows of one loop"
 
@@ -50,17 +51,8 @@ isRowOf settings columns s line = any (isOf s) (givenBy settings columns line)
 abbrev pub AtomsKeepOrder : Settings → {t u : List ℕ} → Reordered t u → Type 0
 AtomsKeepOrder settings r = (s : Site) → filter (isRowOf settings (columnsIn r) s) (r .loop) ≡ filter (isRowOf settings (columnsIn r) s) (r .reordered)
 
--- ---- "chains first met in the same order"
-
-abbrev pub ChainsMetAlike : List Site → List Site → Type 0
-ChainsMetAlike l m = firstMet l ≡ firstMet m
-
--- ---- "each residue's first unskipped row bearing the same residue name and HETATM mark"
-
-abbrev pub ResiduesBeginAlike : List Site → List Site → Type 0
-ResiduesBeginAlike l m = (s : Site) → firstOf (filter (sameResidue s) l) ≡ firstOf (filter (sameResidue s) m)
-
--- ---- demand 3's two texts, chains and residues as they are met in the whole of each
+-- ---- demand 3's two texts: "chains first met in the same order", "each residue's first unskipped row bearing the same residue name and HETATM mark", as they are met in
+-- the whole of each
 
 pub record DifferInOrder (settings : Settings) (t u : List ℕ) : Type 0 where
   pub texts : Reordered t u

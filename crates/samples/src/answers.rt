@@ -1,13 +1,13 @@
 // A sample's line: its name, what reading the text answers, and where it matters a word on the records.
-use crate::readings::Reading;
-use crate::readings::read;
 use crate::say::say;
 use crate::say::say_count;
 use crate::say::say_name;
 use crate::say::say_value;
+use crate::text_read::Reading;
+use crate::text_read::read;
 use crate::texts::put_atoms;
 use building::Counts;
-use reader::Answer;
+use readings::Answer;
 use refusals::Refusal;
 
 // What is said of the records besides the answer.

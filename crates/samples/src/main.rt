@@ -6,13 +6,13 @@ mod headers_read;
 mod lines_read;
 mod names_read;
 mod numbers_read;
-mod readings;
 mod records_cleared;
 mod refused;
 mod rows_read;
 mod say;
 mod shortest;
 mod tables;
+mod text_read;
 mod texts;
 mod zeros;
 

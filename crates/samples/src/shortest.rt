@@ -2,7 +2,7 @@
 use crate::answers::say_sample;
 use crate::say::say;
 use crate::texts::put_atoms;
-use reader::Answer;
+use readings::Answer;
 ghost use Prim.Native.Nat.{_≤_};
 
 fn length_of(field: usize, shortest: usize, needed: usize) -> usize

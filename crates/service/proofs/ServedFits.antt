@@ -13,8 +13,9 @@ use Rattle.building.specs.declared.sites.Counts.{Counts}
 use Rattle.model.specs.Records.{Model}
 use Rattle.model.specs.declared.room.Room.{Room}
 use Rattle.results.specs.declared.answers.Answer.{Answer}
-use Rattle.reader.specs.Reading as reader
-use Rattle.reader.specs.Reading.{Reading, read, readOf}
+use Rattle.readings.specs.Reading as readings
+use Rattle.readings.specs.Reading.{Reading, read}
+use Rattle.reader.specs.Reading.{readOf}
 use Rattle.writer.specs.Text.{textOf}
 use Rattle.writer.specs.Unwritable.{unwritableIn}
 use Rattle.writer.specs.Writing as writer
@@ -41,7 +42,7 @@ module _ (size n : ℕ) (counts : Counts) where
     where
       go : (r : Reading) → Is (answerOf (byReading size r)) → n ≤ size
       go (read m c) e = by-atom m c (unwritableIn m) e
-      go (reader.refused why) e = let z : _≡_ {A = ℕ} 0 1 = cc in absurd (omega arith)
+      go (readings.refused why) e = let z : _≡_ {A = ℕ} 0 1 = cc in absurd (omega arith)
 
 pub own-fits : {settings : Settings} {text out bytes : List ℕ} {answer : Answer} → ServesOwn settings text out answer bytes → (n : ℕ) (counts : Counts) → answer ≡ Answer.Served n counts → n ≤ length out
 own-fits {settings} {text} {out} s n counts e = served-fits (length out) n counts settings ownRoom text (sym (s .answered) ∙ e)

@@ -14,9 +14,10 @@ use Rattle.model.specs.Lent.{Lent, roomOf, holding, emptyModel}
 use Rattle.model.specs.Records.{Model}
 use Rattle.model.specs.declared.room.Room.{Room}
 use Rattle.results.specs.declared.answers.Answer.{Answer}
-use Rattle.reader.specs.Reading as reader
-use Rattle.reader.specs.Reading.{Reading, read, readOf}
-use Rattle.reader.specs.declared.answers.Answer.the-variants as read-answer
+use Rattle.readings.specs.Reading as readings
+use Rattle.readings.specs.Reading.{Reading, read}
+use Rattle.reader.specs.Reading.{readOf}
+use Rattle.readings.specs.declared.answers.Answer.the-variants as read-answer
 use Rattle.writer.specs.Writing as writer
 use Rattle.writer.specs.Writing.{Writing, written, writingOf, writeOf, Wrote}
 use Rattle.writer.specs.declared.answers.Answer as writer-answer
@@ -67,19 +68,19 @@ module _ (settings : Settings) (l : Lent) (text out : List ℕ) where
       record { answered = a ∙ sym (ap answerOf s); left = f ∙ sym (ap (leftIn l) s); written = b ∙ sym (ap (writtenTo out) s) }
 
   -- a text that is not read
-  pub serve-unread : (why : Refusal) (after : Lent) → read-answer.Refused why ≡ reader.answerOf reading → after ≡ reader.leftBy l reading
+  pub serve-unread : (why : Refusal) (after : Lent) → read-answer.Refused why ≡ readings.answerOf reading → after ≡ readings.leftBy l reading
       → Serves settings l text out (Answer.Refused why) after out
   serve-unread why after = go reading refl
     where
-      go : (r : Reading) → reading ≡ r → read-answer.Refused why ≡ reader.answerOf r → after ≡ reader.leftBy l r → Serves settings l text out (Answer.Refused why) after out
+      go : (r : Reading) → reading ≡ r → read-answer.Refused why ≡ readings.answerOf r → after ≡ readings.leftBy l r → Serves settings l text out (Answer.Refused why) after out
       go (read m counts) e a f = let z : _≡_ {A = ℕ} 0 1 = cc in absurd (omega arith)
-      go (reader.refused other) e a f =
+      go (readings.refused other) e a f =
           let same : why ≡ other = cc in
-          serves-as (reader.refused other) e (ap (λ (x : Refusal). Answer.Refused x) same) f refl
+          serves-as (readings.refused other) e (ap (λ (x : Refusal). Answer.Refused x) same) f refl
 
   -- and one that is: what is written is what was read
   pub serve-read : (counts : Counts) (between after : Lent) (answer : Answer) (bytes : List ℕ)
-      → read-answer.Read counts ≡ reader.answerOf reading → between ≡ reader.leftBy l reading → ((m : Model) → holding between m ≡ holding l m)
+      → read-answer.Read counts ≡ readings.answerOf reading → between ≡ readings.leftBy l reading → ((m : Model) → holding between m ≡ holding l m)
       → WritesOut between counts out answer after bytes → Serves settings l text out answer after bytes
   serve-read counts between after answer bytes a f alike writes = go reading refl a f
     where
@@ -95,7 +96,7 @@ module _ (settings : Settings) (l : Lent) (text out : List ℕ) where
       written-as m (written text) = refl
       written-as m (writer.refused why) = refl
 
-      go : (r : Reading) → reading ≡ r → read-answer.Read counts ≡ reader.answerOf r → between ≡ reader.leftBy l r → Serves settings l text out answer after bytes
+      go : (r : Reading) → reading ≡ r → read-answer.Read counts ≡ readings.answerOf r → between ≡ readings.leftBy l r → Serves settings l text out answer after bytes
       go (read m others) e a f =
           let same : others ≡ counts = cc in
           let e : reading ≡ read m counts = e ∙ ap (read m) same in
@@ -105,4 +106,4 @@ module _ (settings : Settings) (l : Lent) (text out : List ℕ) where
           (writes .answered ∙ ap (writtenAnswer counts) w ∙ answered-as m (writingOf size m))
           (writes .left ∙ ap (leftWritten between) w ∙ left-as m f (writingOf size m))
           (writes .written ∙ ap (writer.leftBy out) w ∙ written-as m (writingOf size m))
-      go (reader.refused why) e a f = let z : _≡_ {A = ℕ} 0 1 = cc in absurd (omega arith)
+      go (readings.refused why) e a f = let z : _≡_ {A = ℕ} 0 1 = cc in absurd (omega arith)

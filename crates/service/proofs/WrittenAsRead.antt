@@ -16,7 +16,8 @@ use Rattle.model.specs.Records.{Model}
 use Rattle.model.specs.WellFormed.{countsFit, wellFormedIn}
 use Rattle.model.proofs.HeldModelIsRead.{held-model-is-read, well-formed-there}
 use Rattle.model.proofs.ListLaws.{both}
-use Rattle.reader.specs.Reading.{read, readOf}
+use Rattle.readings.specs.Reading.{read}
+use Rattle.reader.specs.Reading.{readOf}
 use Rattle.reader.proofs.ReadByTheRows.{model-of-rows}
 use Rattle.reader.proofs.ReadIsWellFormed.{read-is-well-formed}
 use Rattle.reader.proofs.RefusalsAreExact.{otherwise-read}

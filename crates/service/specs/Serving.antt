@@ -9,8 +9,9 @@ use Rattle.building.specs.declared.sites.Counts.{Counts}
 use Rattle.model.specs.Lent.{Lent, roomOf, holding, emptyModel}
 use Rattle.model.specs.Records.{Model}
 use Rattle.model.specs.declared.room.Room.{Room}
-use Rattle.reader.specs.Reading as reader
-use Rattle.reader.specs.Reading.{Reading, read, readOf}
+use Rattle.readings.specs.Reading as readings
+use Rattle.readings.specs.Reading.{Reading, read}
+use Rattle.reader.specs.Reading.{readOf}
 use Rattle.refusals.specs.Reasons.{at}
 use Rattle.refusals.specs.declared.reasons.Refusal.{Refusal}
 use Rattle.results.specs.declared.answers.Answer.{Answer}
@@ -28,7 +29,7 @@ byWriting m counts (writer.refused why) = refused (at 0 why)
 
 abbrev pub byReading : ℕ → Reading → Serving
 byReading size (read m counts) = byWriting m counts (writingOf size m)
-byReading size (reader.refused why) = refused why
+byReading size (readings.refused why) = refused why
 
 -- a text, in so much room, into a buffer of so many bytes
 unfoldable pub serveOf : Settings → Room → ℕ → List ℕ → Serving

@@ -109,8 +109,8 @@ pub fn serve(
         settings,
     );
     match answer {
-        reader::Answer::Refused(why) => Answer::Refused(why),
-        reader::Answer::Read(counts) => write_out(
+        readings::Answer::Refused(why) => Answer::Refused(why),
+        readings::Answer::Read(counts) => write_out(
             out,
             chains,
             residue_keys,

@@ -7,35 +7,41 @@ use native.Mathlib.Omega.{arith}
 use lib.ListN.{length, length-append}
 use Rattle.lines.specs.Lines.{linesOf}
 use Rattle.lines.proofs.LinesFitTheText.{lines-fit}
+use Rattle.rows.specs.Fields.{fieldsOf}
+use Rattle.rows.specs.Rules.{rowOf}
+use Rattle.rows.specs.declared.rules.Row.{Row}
+use Rattle.rows.specs.declared.rules.Row.the-variants.{Refused, Skipped, Kept}
 use Rattle.rows.specs.declared.rules.Site.{Site}
 use Rattle.rows.specs.declared.settings.Settings.{Settings}
 use Rattle.line_states.specs.Heads.{startHeads}
+use Rattle.line_states.specs.States.{movedBy}
 use Rattle.line_states.specs.declared.heads.Heads.{Heads}
+use Rattle.line_states.specs.declared.reading.Does.{Does}
+use Rattle.line_states.specs.declared.reading.Does.the-variants.{Nothing, TooManyHeaders}
 use Rattle.building.specs.declared.sites.Counts.{Counts}
 use Rattle.model.specs.Lists.{filter}
 use Rattle.model.specs.Records.{Model}
 use Rattle.model.specs.Taken.{Taken, skipped, site, sites}
 use Rattle.model.specs.declared.room.Room.{Room}
-use Rattle.acts.specs.Lines.{planOf}
-use Rattle.acts.specs.declared.plans.Act.{Act}
-use Rattle.acts.specs.declared.plans.Act.the-variants.{Pass, Skip, Keep, Refuse}
-use Rattle.reader.specs.Reading.{read, readOf}
-use Rattle.reader.specs.Rows.{rowIn, rowsFrom, rowsOf}
+use Rattle.readings.specs.Reading.{read}
+use Rattle.mmcif.specs.Rows.{takenBy, rowsFrom, rowsOf}
+use Rattle.reader.specs.Reading.{readOf}
 use Rattle.reader.proofs.ReadByTheRows.{read-exactly, read-by-the-rows}
 
-one-row : (act : Act) → length (rowIn act) ≤ 1
-one-row Pass = omega arith
-one-row Skip = omega arith
-one-row (Keep s) = omega arith
-one-row (Refuse why) = omega arith
+one-row : (does : Does) (row : Row) → length (takenBy does row) ≤ 1
+one-row Nothing row = omega arith
+one-row Does.Row (Refused why) = omega arith
+one-row Does.Row Skipped = omega arith
+one-row Does.Row (Kept s) = omega arith
+one-row TooManyHeaders row = omega arith
 
 rows-fit : (settings : Settings) (heads : Heads) (lines : List (List ℕ)) → length (rowsFrom settings heads lines) ≤ length lines
 unfolding rowsFrom
 rows-fit settings heads [] = omega arith
 rows-fit settings heads (line ∷ lines) =
-    let plan = planOf settings heads line in
-    let others = rowsFrom settings (plan .heads) lines in
-    omega (arith, length-append (rowIn (plan .act)) others, one-row (plan .act), rows-fit settings (plan .heads) lines)
+    let moved = movedBy heads line in
+    let row = rowOf settings (fieldsOf (moved .heads .columns) line) in
+    omega (arith, length-append (takenBy (moved .does) row) (rowsFrom settings (moved .heads) lines), one-row (moved .does) row, rows-fit settings (moved .heads) lines)
 
 sites-fit : (l : List Taken) → length (sites l) ≤ length l
 unfolding sites

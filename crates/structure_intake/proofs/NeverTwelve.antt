@@ -12,8 +12,9 @@ use Rattle.building.specs.declared.sites.Counts.{Counts}
 use Rattle.model.specs.Records.{Model}
 use Rattle.model.specs.declared.room.Room.{Room}
 use Rattle.results.specs.Results.{statusIn}
-use Rattle.reader.specs.Reading as reader
-use Rattle.reader.specs.Reading.{Reading, read, readOf}
+use Rattle.readings.specs.Reading as readings
+use Rattle.readings.specs.Reading.{Reading, read}
+use Rattle.reader.specs.Reading.{readOf}
 use Rattle.reader.proofs.RefusalsAreExact.{read-numbers}
 use Rattle.writer.specs.Text.{textOf}
 use Rattle.writer.specs.Unwritable.{unwritableIn}
@@ -36,4 +37,4 @@ never-12 settings room size text = go (readOf settings room text) refl
 
     go : (r : Reading) → readOf settings room text ≡ r → statusIn (answerOf (byReading size r)) ≡ 12 → ⊥
     go (read m counts) q e = by-atom m counts (unwritableIn m) e
-    go (reader.refused why) q e = omega (arith, read-numbers settings room text why q)
+    go (readings.refused why) q e = omega (arith, read-numbers settings room text why q)

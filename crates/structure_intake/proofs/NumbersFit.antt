@@ -19,9 +19,10 @@ use Rattle.model.specs.declared.room.Room.{Room}
 use Rattle.model.proofs.HeldModelIsRead.{held-model-is-read}
 use Rattle.results.specs.Results.{numbersIn, bytesOf}
 use Rattle.results.proofs.BytesTell.{numbersTold, bytes-tell}
-use Rattle.reader.specs.Reading as reader
-use Rattle.reader.specs.Reading.{Reading, read, readOf}
-use Rattle.reader.proofs.SlicesOfOneSize.{room-within}
+use Rattle.readings.specs.Reading as readings
+use Rattle.readings.specs.Reading.{Reading, read}
+use Rattle.reader.specs.Reading.{readOf}
+use Rattle.readings.proofs.SlicesOfOneSize.{room-within}
 use Rattle.writer.specs.Text.{textOf}
 use Rattle.writer.specs.Unwritable.{isUnwritable, firstUnwritable, unwritableIn}
 use Rattle.writer.specs.Writing as writer
@@ -74,7 +75,7 @@ module _ (settings : Settings) (l : Lent) (size : ℕ) (text : List ℕ) where
     where
       go : (r : Reading) → readOf settings (roomOf l) text ≡ r → AllSmall r
       go (read m counts) e = written-small m counts e
-      go (reader.refused why) e =
+      go (readings.refused why) e =
           let (line, detail) = refusals-are-small settings l text bytes why e in
           (line, (detail, (omega arith, (omega arith, (omega arith, (omega arith, (omega arith, tt)))))))
 

@@ -36,11 +36,12 @@ use Rattle.model.specs.Lists.{All}
 use Rattle.model.specs.declared.room.Room.{Room}
 use Rattle.model.proofs.UnknownIsFirst.{unknown-is-first}
 use Rattle.reader.specs.Exact.{ReadInto}
-use Rattle.reader.specs.Reading.{refused, readOf}
-use Rattle.reader.proofs.RefusalsAreExact.{of-line, Ends, long, outside, ofLine, unknown, ends-at}
+use Rattle.readings.specs.Reading.{refused}
+use Rattle.reader.specs.Reading.{readOf}
+use Rattle.reader.proofs.RefusalsAreExact.{RefusedSo, long, outside, ofLine, unknown, refused-so}
 use Rattle.reader.proofs.ReadByTheRows.{model-of-rows}
-use Rattle.reader.proofs.RefusedAtTheFirst.{first-is-numbered}
-use Rattle.reader.proofs.SlicesOfOneSize.{room-within}
+use Rattle.reader.proofs.LinesEarn.{first-is-numbered, of-line}
+use Rattle.readings.proofs.SlicesOfOneSize.{room-within}
 
 abbrev Small : Refusal → Type 0
 Small why = (why .line < 2 ^ 32) × (detailOf (why .reason) < 2 ^ 32)
@@ -128,9 +129,9 @@ module _ (settings : Settings) (l : Lent) (text : List ℕ) where
 
   -- ---- the theorem
   pub refusals-are-small : All (λ b. b < 256) text → (why : Refusal) → readOf settings room text ≡ refused why → (why .line < 2 ^ 32) × (detailOf (why .reason) < 2 ^ 32)
-  refusals-are-small h why e = go why (ends-at settings room text (refused why) e)
+  refusals-are-small h why e = go why (refused-so settings room text why e)
     where
-      go : (why : Refusal) → Ends settings room text (refused why) → Small why
+      go : (why : Refusal) → RefusedSo settings room text why → Small why
       go why (long k) = (omega arith, omega arith)
       go why (outside {line} {byte} k o) = let (a, b) = outside-within 1 line byte text o h in (omega arith, omega arith)
       go why (ofLine a f) =

@@ -6,9 +6,9 @@ use lib.ListN.{length, take}
 use Rattle.rows.specs.declared.settings.Settings.{Settings}
 use Rattle.model.specs.Lent.{Lent, roomOf, emptyModel}
 use Rattle.model.specs.declared.room.Room.{Room}
-use Rattle.reader.specs.Closing.{ReadBy}
-use Rattle.reader.specs.Reading.{Reading, read, refused, readOf, answerOf, leftBy}
-use Rattle.reader.specs.declared.answers.Answer.{Answer}
+use Rattle.reader.specs.Reading.{ReadBy, readOf}
+use Rattle.readings.specs.Reading.{Reading, read, refused, answerOf, leftBy}
+use Rattle.readings.specs.declared.answers.Answer.{Answer}
 use Rattle.chains.specs.declared.chain.Chain.{Chain}
 use Rattle.chains.specs.Names.{namesIn, named}
 use Rattle.structures.proofs.StoredIsHeld.{room-stored, holding-stored}

@@ -3,13 +3,13 @@ use chains::Chain;
 use chains::Names;
 use chains::no_names;
 use chains::store_names;
-use reader::Answer;
+use readings::Answer;
 use rows::Settings;
 ghost use Prim.Native.Nat.{_≤_};
 ghost use lib.ListN.{length};
 ghost use Rattle.chains.specs.Names.{firstAt, namesAt};
 ghost use Rattle.model.specs.Lent.{lentBy};
-ghost use Rattle.reader.specs.Closing.{ReadBy};
+ghost use Rattle.reader.specs.Reading.{ReadBy};
 
 // The reading by names, in the first so many. The names come as a slice: the borrow checker covers a part of one, and no part of a lent array.
 fn read_first(

@@ -1,7 +1,7 @@
 -- A text that is not read is refused as the reader says; one that is read leaves the model in the records, from which it is written.
 use mathlib.Core.Path.{sym, _∙_}
 use Rattle.model.specs.Lent.{Lent, lentOf}
-use Rattle.reader.proofs.SlicesOfOneSize.{same-holding}
+use Rattle.readings.proofs.SlicesOfOneSize.{same-holding}
 use Rattle.service.proofs.ServingLaws.{serve-unread, serve-read}
 use borrow.Author.Needs.{needs}
 use Rattle.service.proofs.serving.serve.Statement.{statement}

@@ -43,10 +43,10 @@ use Rattle.rows.specs.declared.settings.Settings.{Settings}
 use Rattle.rows.proofs.settings.Settings as S
 use Rattle.rows.proofs.settings.Settings.Laws as S′
 use Rattle.model.specs.Lent.{Lent}
-use Rattle.reader.specs.Closing.{ReadBy}
-use Rattle.reader.specs.declared.answers.Answer.{Answer}
-use Rattle.reader.proofs.answers.Answer as T
-use Rattle.reader.proofs.answers.Answer.Laws as T′
+use Rattle.reader.specs.Reading.{ReadBy}
+use Rattle.readings.specs.declared.answers.Answer.{Answer}
+use Rattle.readings.proofs.answers.Answer as T
+use Rattle.readings.proofs.answers.Answer.Laws as T′
 use Rattle.chains.specs.Names.{namesIn, named as stored}
 use Rattle.chains.specs.declared.chain.Chain.{Chain}
 use Rattle.chains.proofs.NamesInMemory.{Names}

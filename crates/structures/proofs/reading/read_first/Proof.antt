@@ -2,7 +2,7 @@
 use mathlib.Core.List.{List}
 use Prim.Native.Nat.{ℕ, zero-le}
 use Rattle.model.specs.Lent.{Lent, lentOf}
-use Rattle.reader.specs.Closing.{ReadBy}
+use Rattle.reader.specs.Reading.{ReadBy}
 use Rattle.structures.proofs.FrontLaws.{lent-front}
 use borrow.Author.Needs.{needs}
 use Rattle.structures.proofs.reading.read_first.Statement.{statement}

@@ -3,7 +3,7 @@ use mathlib.Core.List.{List}
 use Prim.Native.Nat.{ℕ}
 use native.Mathlib.Omega.{arith}
 use Rattle.model.specs.Lent.{Lent, lentOf}
-use Rattle.reader.specs.Closing.{ReadBy}
+use Rattle.reader.specs.Reading.{ReadBy}
 use Rattle.structures.proofs.FrontLaws.{kept-front}
 use borrow.Author.Needs.{needs}
 use Rattle.structures.proofs.reading.read_into.Statement.{statement}

@@ -1,0 +1,5 @@
+pub mod ActsInParts
+pub mod LineActs
+pub mod PlanLaws
+pub mod RowsOfActs
+pub mod UnderWay

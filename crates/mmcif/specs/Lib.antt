@@ -1,0 +1,3 @@
+pub mod Acts
+pub mod Plans
+pub mod Rows

@@ -1,0 +1,10 @@
+pub mod CountsOverActs
+pub mod EndOfReading
+pub mod OrderOfActs
+pub mod ReadByTheRows
+pub mod ReadIsWellFormed
+pub mod ReadWhole
+pub mod RefusalsAreExact
+pub mod ReorderedLaws
+pub mod RowsReordered
+pub mod SlicesOfOneSize
