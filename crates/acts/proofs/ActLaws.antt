@@ -11,7 +11,7 @@ use Rattle.model.specs.Taken.{skipped, site}
 use Rattle.model.specs.declared.room.Lack.{Lack}
 use Rattle.model.specs.declared.room.Room.{Room}
 use Rattle.building.specs.Gaps.{HoldsApart}
-use Rattle.building.specs.Holds.{Records, SameLengths}
+use Rattle.building.specs.Holds.{Records}
 use Rattle.building.specs.Sites.{withSkipped, Did}
 use Rattle.building.specs.declared.held.Held.{Held}
 use Rattle.building.specs.declared.sites.Put.{Put}
@@ -50,7 +50,7 @@ module _ (r : Records) (room : Room) (number : ℕ) (held : Held) where
   module _ (s : Site) (proper : Finite (s .occupancy) → Proper s) where
     put-stands : (put : Put) (after : Records) → Did r room held s put after → Acts r room held (asked (Keep s)) (standingBy number held put) after
     put-stands (NoRoom kind) after did = record {
-      lengths = subst (SameLengths r) (sym (did .0)) (lengths-same r);
+      lengths = did .0;
       stands = λ st holds few finite.
           subst (λ (lack : Lack). Stands room after (record { held = held; halt = Refused (at number (reason.NoRoom kind)) }) (within number lack (going (step st (site s)))))
           (sym (did .1 st holds (proper finite))) refl;

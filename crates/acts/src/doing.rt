@@ -2,8 +2,10 @@
 use crate::act::Act;
 use building::Held;
 use building::Put;
+use building::chain_place;
 use building::put_site;
 use building::skip_row;
+use field_slices::store_u64;
 use model::Room;
 use refusals::Reason;
 use refusals::Refusal;
@@ -69,8 +71,9 @@ pub fn do_act(
             halt: Halt::Going,
         },
         Act::Keep(site) => {
+            let counts = held.counts;
+            let place = chain_place(chains, counts.chains, site.chain);
             let put = put_site(
-                chains,
                 residue_keys,
                 residue_names,
                 residue_marks,
@@ -81,8 +84,10 @@ pub fn do_act(
                 occupancies,
                 room,
                 held,
+                place,
                 site,
             );
+            store_u64(chains, place, site.chain);
             standing_by(number, held, put)
         }
         Act::Refuse(why) => Standing {

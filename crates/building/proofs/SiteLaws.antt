@@ -33,8 +33,8 @@ use Rattle.building.specs.declared.held.Held.{Held}
 use Rattle.building.specs.declared.sites.Places.{Places}
 use Rattle.building.specs.Gaps.{noneHeld, closedUp, gathered, HoldsApart}
 use Rattle.building.specs.Holds.{Records, Within, HoldsChains, HoldsResidues, HoldsAtoms, Holds}
-use Rattle.building.specs.Sites.{residuesBefore, atomsBefore, isNewChain, PlacesFound, lackOf, Placed, oneMore, heldWith, withSkipped}
-use Rattle.building.specs.Slices.{outdoes, betterIn, Betters}
+use Rattle.building.specs.Sites.{residuesBefore, atomsBefore, isNewChain, SpotsFound, lackOf, Placed, oneMore, heldWith, withSkipped}
+use Rattle.building.specs.Slices.{ChainFound, outdoes, betterIn, Betters}
 use Rattle.building.proofs.AtomLaws.{atom-put}
 use Rattle.building.proofs.AtomPlaces.{split, splits, parts, place-split, ascending-split}
 use Rattle.building.proofs.ChainsHeld.{place-with, chain-is, chain-within, chain-put}
@@ -121,7 +121,8 @@ skipped-held r room h st a few =
       };
     }
 
-module _ (r : Records) (room : Room) (h : Held) (s : Site) (p : Places) (f : PlacesFound (r .chains) (r .residueKeys) (r .atomKeys) (r .atomNames) h s p)
+module _ (r : Records) (room : Room) (h : Held) (s : Site) (p : Places) (place : ℕ) (found : ChainFound (take (h .counts .chains) (r .chains)) (s .chain) place)
+    (spots : SpotsFound (r .residueKeys) (r .atomKeys) (r .atomNames) h place s p)
     (st : State) (a : HoldsApart r room h st) (w : Proper s) where
   abbrev chains : List ℕ
   chains = withChain (s .chain) (st .chains)
@@ -143,14 +144,17 @@ module _ (r : Records) (room : Room) (h : Held) (s : Site) (p : Places) (f : Pla
   atoms-fit = omega (arith, held .atoms .many, held .fits .atoms)
 
   -- ---- the places
+  f : ChainFound (take (h .counts .chains) (r .chains)) (s .chain) (p .chain)
+  f = subst (ChainFound (take (h .counts .chains) (r .chains)) (s .chain)) (sym (spots .chain)) found
+
   chain-place : p .chain ≡ chainPlace (s .chain) (st .chains)
-  chain-place = chain-is (r .chains) (h .counts .chains) (st .chains) (s .chain) (p .chain) (held .chains) (f .chain)
+  chain-place = chain-is (r .chains) (h .counts .chains) (st .chains) (s .chain) (p .chain) (held .chains) f
 
   small : p .chain ≤ 4096
   small =
       omega (
         arith,
-        chain-within (r .chains) (h .counts .chains) (st .chains) (s .chain) (p .chain) (held .chains) (f .chain),
+        chain-within (r .chains) (h .counts .chains) (st .chains) (s .chain) (p .chain) (held .chains) f,
         held .chains .many,
         held .fits .chains,
         a .within .sizes .0,
@@ -158,7 +162,7 @@ module _ (r : Records) (room : Room) (h : Held) (s : Site) (p : Places) (f : Pla
 
   key-is : p .key ≡ residueAt chains s
   unfolding residueAt
-  key-is = f .key small ∙ ap (λ (x : ℕ). residueKey x (s .sequence) (s .«insertion_code»)) (chain-place ∙ sym (place-with (s .chain) (st .chains)))
+  key-is = spots .key small ∙ ap (λ (x : ℕ). residueKey x (s .sequence) (s .«insertion_code»)) (chain-place ∙ sym (place-with (s .chain) (st .chains)))
 
   residue-keys : closed (residuesBefore h) (h .behind .residues) (r .residueKeys) ≡ keys (st .residues)
   residue-keys =
@@ -169,12 +173,12 @@ module _ (r : Records) (room : Room) (h : Held) (s : Site) (p : Places) (f : Pla
 
   residue-spot : p .residue ≡ spotOf (placeIn ltb (p .key) (keys (st .residues)))
   residue-spot =
-      f .residue residue-within .place (subst (Ascending ltb) (sym residue-keys) (keys-ascend 0 (st .residues) (held .residues .ascending)))
+      spots .residue residue-within .place (subst (Ascending ltb) (sym residue-keys) (keys-ascend 0 (st .residues) (held .residues .ascending)))
       ∙ ap (λ (l : List ℕ). spotOf (placeIn ltb (p .key) l)) residue-keys
 
   residue-front : p .residue .front ≤ residues
   residue-front =
-      omega (arith, a .residues, f .residue residue-within .inside, length-closed (residuesBefore h) (h .behind .residues) (r .residueKeys) residue-within)
+      omega (arith, a .residues, spots .residue residue-within .inside, length-closed (residuesBefore h) (h .behind .residues) (r .residueKeys) residue-within)
 
   atom-keys-within : atomsBefore h + h .behind .atoms ≤ length (r .atomKeys)
   atom-keys-within = omega (arith, a .atoms, atoms-fit, a .within .atoms .0)
@@ -197,7 +201,7 @@ module _ (r : Records) (room : Room) (h : Held) (s : Site) (p : Places) (f : Pla
 
   atom-spot : p .atom ≡ spotOf (placeIn ltb (atomPlace (p .key) (s .atom)) (keys (st .atoms)))
   atom-spot =
-      f .atom atom-keys-within atom-names-within .place
+      spots .atom atom-keys-within atom-names-within .place
       (subst (Ascending below) (sym pairs-held) (ascending-split (st .atoms) (keys-ascend 0 (st .atoms) (held .atoms .ascending))))
       ∙ ap spotOf
       (ap (placeIn below (p .key, s .atom)) pairs-held
@@ -207,7 +211,7 @@ module _ (r : Records) (room : Room) (h : Held) (s : Site) (p : Places) (f : Pla
   atom-front : p .atom .front ≤ atoms
   atom-front =
       let e = ap length pairs-held ∙ length-map (st .atoms) (λ (e : Entry Atom). split (e .key)) in
-      omega (arith, f .atom atom-keys-within atom-names-within .inside, e, held .atoms .many)
+      omega (arith, spots .atom atom-keys-within atom-names-within .inside, e, held .atoms .many)
 
   -- ---- what is new
   residue-new : p .residue .new ≡ isNone (find (residueAt chains s) (st .residues))
@@ -245,7 +249,7 @@ module _ (r : Records) (room : Room) (h : Held) (s : Site) (p : Places) (f : Pla
     chains-after : HoldsChains (after .chains) (cond (isNewChain (h .counts) p) (suc (h .counts .chains)) (h .counts .chains)) chains
     chains-after =
         subst (λ (l : List ℕ). HoldsChains l (cond (isNewChain (h .counts) p) (suc (h .counts .chains)) (h .counts .chains)) chains) (sym (placed .chains))
-        (chain-put (r .chains) (h .counts .chains) (st .chains) (s .chain) (p .chain) (held .chains) (f .chain)
+        (chain-put (r .chains) (h .counts .chains) (st .chains) (s .chain) (p .chain) (held .chains) f
         (λ t. chain-room room r (a .within) (h .counts .chains) (room-beside (isNewChain (h .counts) p) (room .chains) (h .counts .chains) (rooms .0) t)))
 
     -- each slice has the room

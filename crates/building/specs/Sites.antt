@@ -4,7 +4,8 @@ use mathlib.Core.Bool.{Bool, true, not, _&&_, cond}
 use mathlib.Core.List.{List}
 use Prim.Native.Nat.{ℕ, suc, _+_, _-_, _^_, _≤_, _<_}
 use lib.Dec.{leb, ltb}
-use lib.ListN.{length, take, set}
+use lib.ListN.{length, set}
+use denote.Triple.Both.{Both}
 use Rattle.rows.specs.declared.rules.Site.{Site}
 use Rattle.gapped_slices.specs.Gaps.{closed, PutIn}
 use Rattle.field_slices.specs.Places.{pairs, below}
@@ -26,7 +27,7 @@ use Rattle.building.specs.declared.sites.Put.{Put}
 use Rattle.building.specs.declared.sites.Put.the-variants.{NoRoom, Done}
 use Rattle.building.specs.Gaps.{HoldsApart}
 use Rattle.building.specs.Holds.{Records, SameLengths}
-use Rattle.building.specs.Slices.{ChainFound, Betters}
+use Rattle.building.specs.Slices.{Betters}
 
 -- ---- where it goes
 
@@ -41,9 +42,9 @@ atomsBefore h = h .counts .atoms - h .behind .atoms
 abbrev pub isNewChain : Counts → Places → Bool
 isNewChain c p = leb (c .chains) (p .chain)
 
--- the places of a site, as the searches say them, in slices that are long enough
-pub record PlacesFound (chains residueKeys atomKeys atomNames : List ℕ) (h : Held) (s : Site) (p : Places) : Type 0 where
-  pub chain : ChainFound (take (h .counts .chains) chains) (s .chain) (p .chain)
+-- the places of a site whose chain stands at this place, as the searches say them, in slices that are long enough
+pub record SpotsFound (residueKeys atomKeys atomNames : List ℕ) (h : Held) (place : ℕ) (s : Site) (p : Places) : Type 0 where
+  pub chain : p .chain ≡ place
   pub key : p .chain ≤ 4096 → p .key ≡ residueKey (p .chain) (s .sequence) (s .«insertion_code»)
   pub residue : residuesBefore h + h .behind .residues ≤ length residueKeys → Spotted ltb (closed (residuesBefore h) (h .behind .residues) residueKeys) (p .key) (p .residue)
   pub atom : atomsBefore h + h .behind .atoms ≤ length atomKeys → atomsBefore h + h .behind .atoms ≤ length atomNames
@@ -56,7 +57,10 @@ lackOf room c p =
 
 -- ---- what it leaves
 
--- a chain that is there is stored where it stands
+-- the chain list gets the name at the chain's place: a chain that is there is stored where it stands
+abbrev pub withPlace : List ℕ → ℕ → ℕ → Both (List ℕ) (List ℕ)
+withPlace chains place name = record { entry = chains; exit = set chains place name }
+
 pub record Placed (r : Records) (h : Held) (p : Places) (s : Site) (after : Records) : Type 0 where
   pub chains : after .chains ≡ set (r .chains) (p .chain) (s .chain)
   pub residueKeys : PutIn (residuesBefore h) (h .behind .residues) (p .residue) (p .key) (r .residueKeys) (after .residueKeys)
@@ -108,10 +112,10 @@ withSkipped h =
 
 -- ---- the whole
 
--- Where the site had no room nothing has changed, and of any model that the slices and counts held that is what it lacked; else no slice is longer or
--- shorter, and it lacked none, and they hold the model with the site, if the greatest number is above its count of rows.
+-- No slice is longer or shorter. Where the site had no room, that is what it lacked of any model that the slices and counts held; else it lacked none, and they hold the model
+-- with the site, if the greatest number is above its count of rows.
 abbrev pub Did : Records → Room → Held → Site → Put → Records → Type 0
-Did r room h s (NoRoom kind) after = (after ≡ r) × ((st : State) → HoldsApart r room h st → Proper s → lacking room st (site s) ≡ Of kind)
+Did r room h s (NoRoom kind) after = SameLengths r after × ((st : State) → HoldsApart r room h st → Proper s → lacking room st (site s) ≡ Of kind)
 Did r room h s (Done d) after =
     SameLengths r after
     × ((st : State) → HoldsApart r room h st → Proper s

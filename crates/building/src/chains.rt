@@ -24,7 +24,7 @@ fn walk(chains: &[u64], n: usize, name: u64) -> usize
 
 // Where the chain stands among the first n, or all of them where there are fewer; their count where it is not there. The last chain is
 // looked at first, since rows nearly always come in order.
-pub(crate) fn chain_place(chains: &[u64], n: usize, name: u64) -> usize
+pub fn chain_place(chains: &[u64], n: usize, name: u64) -> usize
     ensures { λ r. ⌜ ChainFound (take n (now (chains .entry))) name r ⌝ }
 {
     let count = smaller(n, chains.len());

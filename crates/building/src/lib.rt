@@ -1,4 +1,4 @@
-// The model built in lent records, one slice to a field: step 8 of a row.
+// The model built in lent records, one slice to a field: step 8 of a row. A site comes with its chain's place; who holds the chain list finds it.
 mod atoms;
 mod chains;
 mod gathering;
@@ -7,6 +7,7 @@ mod residues;
 mod room;
 mod sites;
 
+pub use chains::chain_place;
 pub use gathering::gather;
 pub use held::Behind;
 pub use held::Held;

@@ -1,6 +1,5 @@
-// A site put into the records: its chain, its residue and its atom, where there is room for what is new of them.
+// A site put into the records: its residue and its atom at its chain's place, where there is room for what is new of them.
 use crate::atoms::put_atom;
-use crate::chains::chain_place;
 use crate::held::Behind;
 use crate::held::Held;
 use crate::held::rest;
@@ -14,10 +13,14 @@ use refusals::RecordKind;
 use rows::Point3;
 use rows::Site;
 ghost use mathlib.Core.Path.{_≡_};
+ghost use mathlib.Core.List.{List};
+ghost use Prim.Native.Nat.{ℕ};
+ghost use lib.ListN.{take};
 ghost use Rattle.model.specs.Lists.{count};
 ghost use Rattle.model.specs.Lent.{coordinates};
-ghost use Rattle.building.specs.Holds.{records, sizesOf};
-ghost use Rattle.building.specs.Sites.{PlacesFound, lackOf, Placed, oneMore, heldWith, withSkipped, Did};
+ghost use Rattle.building.specs.Holds.{recordsBy, sizesOf};
+ghost use Rattle.building.specs.Sites.{SpotsFound, lackOf, withPlace, Placed, oneMore, heldWith, withSkipped, Did};
+ghost use Rattle.building.specs.Slices.{ChainFound};
 
 pub struct Counts {
     pub chains: usize,
@@ -57,25 +60,24 @@ pub struct Places {
 // ---- where it goes
 
 fn places_of(
-    chains: &[u64],
     residue_keys: &[u64],
     atom_keys: &[u64],
     atom_names: &[u64],
     held: Held,
+    place: usize,
     site: Site,
 ) -> Places
-    ensures { λ r. ⌜ PlacesFound (now (chains .entry)) (now («residue_keys» .entry)) (now («atom_keys» .entry)) (now («atom_names» .entry)) held site r ⌝ }
+    ensures { λ r. ⌜ SpotsFound (now («residue_keys» .entry)) (now («atom_keys» .entry)) (now («atom_names» .entry)) held place site r ⌝ }
 {
     let counts = held.counts;
     let behind = held.behind;
-    let chain = chain_place(chains, counts.chains, site.chain);
-    let key = residue_key(chain, site.sequence, site.insertion_code);
+    let key = residue_key(place, site.sequence, site.insertion_code);
     let residues = rest(counts.residues, behind.residues);
     let residue = gapped_slices::spot_of_key(residue_keys, residues, behind.residues, key);
     let atoms = rest(counts.atoms, behind.atoms);
     let atom = gapped_slices::spot_of(atom_keys, atom_names, atoms, behind.atoms, key, site.atom);
     Places {
-        chain: chain,
+        chain: place,
         key: key,
         residue: residue,
         atom: atom,
@@ -173,7 +175,6 @@ pub fn skip_row(held: Held) -> Held
 }
 
 fn store_site(
-    chains: &mut [u64],
     residue_keys: &mut [u64],
     residue_names: &mut [u64],
     residue_marks: &mut [u8],
@@ -186,14 +187,14 @@ fn store_site(
     places: Places,
     site: Site,
 )
-    ensures { λ _. ⌜ (let l = records chains «residue_keys» «residue_names» «residue_marks» «atom_keys» «atom_names» elements positions occupancies in
+    ensures { λ _. ⌜ ((chains : List ℕ) →
+        let l = recordsBy (withPlace chains (places .chain) (site .chain)) «residue_keys» «residue_names» «residue_marks» «atom_keys» «atom_names» elements positions occupancies in
         Placed (l .entry) held places site (l .exit)) ⌝ }
 {
     let counts = held.counts;
     let behind = held.behind;
     let residue = places.residue;
     let atom = places.atom;
-    field_slices::store_u64(chains, places.chain, site.chain);
     let mark = mark_of(site.hetatm);
     let residues = rest(counts.residues, behind.residues);
     put_residue(
@@ -226,9 +227,9 @@ fn store_site(
     );
 }
 
-// Step 8: room for the chain, then the residue, then the atom; then all of them are put in.
+// Step 8: room for the chain, then the residue, then the atom; then residue and atom are put in. The site's chain stands at this place of the
+// chain list, which is its end where the chain is new; the list gets the name there from whoever holds it.
 pub fn put_site(
-    chains: &mut [u64],
     residue_keys: &mut [u64],
     residue_names: &mut [u64],
     residue_marks: &mut [u8],
@@ -239,19 +240,20 @@ pub fn put_site(
     occupancies: &mut [f64],
     room: Room,
     held: Held,
+    place: usize,
     site: Site,
 ) -> Put
-    ensures { λ r. ⌜ (let l = records chains «residue_keys» «residue_names» «residue_marks» «atom_keys» «atom_names» elements positions occupancies in
+    ensures { λ r. ⌜ ((chains : List ℕ) → ChainFound (take (held .counts .chains) chains) (site .chain) place →
+        let l = recordsBy (withPlace chains place (site .chain)) «residue_keys» «residue_names» «residue_marks» «atom_keys» «atom_names» elements positions occupancies in
         Did (l .entry) room held site r (l .exit)) ⌝ }
 {
-    let places = places_of(chains, residue_keys, atom_keys, atom_names, held, site);
+    let places = places_of(residue_keys, atom_keys, atom_names, held, place, site);
     let counts = held.counts;
     let lack = lack_of(room, counts, places);
     if let Lack::Of(kind) = lack {
         return Put::NoRoom(kind);
     }
     store_site(
-        chains,
         residue_keys,
         residue_names,
         residue_marks,

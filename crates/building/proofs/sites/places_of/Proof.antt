@@ -1,5 +1,5 @@
 -- One look to a place.
-use mathlib.Core.Path.{subst}
+use mathlib.Core.Path.{refl, subst}
 use Prim.Native.Nat.{ℕ, _+_, _≤_}
 use lib.Dec.{ltb}
 use lib.ListN.{length}
@@ -9,9 +9,6 @@ use Rattle.gapped_slices.specs.Spots.{Spotted}
 use borrow.Author.Needs.{needs}
 use Rattle.building.proofs.sites.places_of.Statement.{statement}
 use Rattle.building.proofs.sites.places_of.Tie as tie
-
-chain-place-requires : tie.Need-chain-place-requires
-chain-place-requires c κs = search needs
 
 residue-key-requires : tie.Need-residue-key-requires
 residue-key-requires c κs = search needs
@@ -30,14 +27,14 @@ spot-of-requires c κs = search needs
 
 returns : tie.Need-returns
 returns c =
-    let a = c .before .before .before .before .before .before .before .before .before .before .before .before .args in
+    let a = c .before .before .before .before .before .before .before .before .before .before .args in
     let key = c .before .before .before .before .residue-key .result in
     let b = a .held .behind in
     let keys = a .residue-keys .now in
     let k = a .atom-keys .now in
     let m = a .atom-names .now in
     record {
-      chain = c .before .before .before .before .before .chain-place .ensures;
+      chain = refl;
       key = c .before .before .before .before .residue-key .ensures;
       residue =
           subst (λ (f : ℕ). f + b .residues ≤ length keys → Spotted ltb (closed f (b .residues) keys) key (c .before .before .spot-of-key .result)) (c .before .before .before .rest .ensures)
@@ -52,7 +49,6 @@ pub places-of-spec : {M : Type 1} → statement M
 places-of-spec =
     tie.close
     (tie.spec
-    chain-place-requires
     residue-key-requires
     rest-requires
     spot-of-key-requires
