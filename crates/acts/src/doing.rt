@@ -1,17 +1,21 @@
-// What an act does to the lent slices: step 8 for a site that is kept, a count for a row that is skipped.
+// What an act does: step 8 over the lent slices for a site that is kept; a count for a row that is skipped, and a refusal, which need no slice.
 use crate::act::Act;
 use building::Held;
 use building::Put;
-use building::chain_place;
 use building::put_site;
 use building::skip_row;
-use field_slices::store_u64;
 use model::Room;
 use refusals::Reason;
 use refusals::Refusal;
+use rows::Site;
 ghost use mathlib.Core.Path.{_≡_};
-ghost use Rattle.building.specs.Holds.{records};
-ghost use Rattle.acts.specs.Standing.{standingBy, Acts};
+ghost use mathlib.Core.List.{List};
+ghost use Prim.Native.Nat.{ℕ};
+ghost use lib.ListN.{take};
+ghost use Rattle.building.specs.Holds.{recordsBy};
+ghost use Rattle.building.specs.Sites.{withPlace};
+ghost use Rattle.building.specs.Slices.{ChainFound};
+ghost use Rattle.acts.specs.Standing.{standingBy, passedAt, Keeps};
 
 pub enum Halt {
     Going,
@@ -42,9 +46,8 @@ fn standing_by(number: usize, held: Held, put: Put) -> Standing
     }
 }
 
-// The act of the line with this number.
-pub fn do_act(
-    chains: &mut [u64],
+// The site that the line with this number keeps, put in at its chain's place.
+pub fn keep_site(
     residue_keys: &mut [u64],
     residue_names: &mut [u64],
     residue_marks: &mut [u8],
@@ -56,10 +59,33 @@ pub fn do_act(
     room: Room,
     number: usize,
     held: Held,
-    act: Act,
+    place: usize,
+    site: Site,
 ) -> Standing
-    ensures { λ r. ⌜ (let l = records chains «residue_keys» «residue_names» «residue_marks» «atom_keys» «atom_names» elements positions occupancies in
-        Acts (l .entry) room held (record { line = number; act = act }) r (l .exit)) ⌝ }
+    ensures { λ r. ⌜ ((chains : List ℕ) → ChainFound (take (held .counts .chains) chains) (site .chain) place →
+        let l = recordsBy (withPlace chains place (site .chain)) «residue_keys» «residue_names» «residue_marks» «atom_keys» «atom_names» elements positions occupancies in
+        Keeps (l .entry) room number held site r (l .exit)) ⌝ }
+{
+    let put = put_site(
+        residue_keys,
+        residue_names,
+        residue_marks,
+        atom_keys,
+        atom_names,
+        elements,
+        positions,
+        occupancies,
+        room,
+        held,
+        place,
+        site,
+    );
+    standing_by(number, held, put)
+}
+
+// What an act of that line does to what is held, before a site is put in: nothing, a skipped row more, or the refusal.
+pub fn pass_act(number: usize, held: Held, act: Act) -> Standing
+    ensures { λ r. ⌜ r ≡ passedAt number held act ⌝ }
 {
     match act {
         Act::Pass => Standing {
@@ -70,26 +96,10 @@ pub fn do_act(
             held: skip_row(held),
             halt: Halt::Going,
         },
-        Act::Keep(site) => {
-            let counts = held.counts;
-            let place = chain_place(chains, counts.chains, site.chain);
-            let put = put_site(
-                residue_keys,
-                residue_names,
-                residue_marks,
-                atom_keys,
-                atom_names,
-                elements,
-                positions,
-                occupancies,
-                room,
-                held,
-                place,
-                site,
-            );
-            store_u64(chains, place, site.chain);
-            standing_by(number, held, put)
-        }
+        Act::Keep(_) => Standing {
+            held,
+            halt: Halt::Going,
+        },
         Act::Refuse(why) => Standing {
             held,
             halt: Halt::Refused(Refusal {

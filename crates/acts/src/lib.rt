@@ -5,4 +5,5 @@ mod doing;
 pub use act::Act;
 pub use doing::Halt;
 pub use doing::Standing;
-pub use doing::do_act;
+pub use doing::keep_site;
+pub use doing::pass_act;

@@ -34,6 +34,14 @@ module _ (n : ℕ) where
   more-counted true h = one-more true refl (omega arith)
   more-counted false h = none-more false refl
 
+  pub no-fewer : (more : Bool) → n ≤ oneMore more n
+  unfolding oneMore
+  no-fewer more = go (more && ltb n 18446744073709551615)
+    where
+      go : (t : Bool) → n ≤ cond t (suc n) n
+      go true = omega arith
+      go false = omega arith
+
 -- ---- what lacks room
 module _ (room : Room) (c : Counts) (p : Places) where
   abbrev pub noChain : Bool

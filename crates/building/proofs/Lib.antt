@@ -2,6 +2,7 @@ pub mod AtomLaws
 pub mod AtomPlaces
 pub mod ChainLaws
 pub mod ChainsHeld
+pub mod ChainsStored
 pub mod CountLaws
 pub mod GapsHeld
 pub mod GatheringLaws

@@ -26,7 +26,7 @@ use Rattle.building.specs.declared.sites.Places.{Places}
 use Rattle.building.specs.declared.sites.Put.{Put}
 use Rattle.building.specs.declared.sites.Put.the-variants.{NoRoom, Done}
 use Rattle.building.specs.Gaps.{HoldsApart}
-use Rattle.building.specs.Holds.{Records, SameLengths}
+use Rattle.building.specs.Holds.{Records, recordsOf, SameLengths}
 use Rattle.building.specs.Slices.{Betters}
 
 -- ---- where it goes
@@ -112,11 +112,17 @@ withSkipped h =
 
 -- ---- the whole
 
--- No slice is longer or shorter. Where the site had no room, that is what it lacked of any model that the slices and counts held; else it lacked none, and they hold the model
--- with the site, if the greatest number is above its count of rows.
+-- residues and atoms are as they were
+abbrev pub OnlyChains : Records → Records → Type 0
+OnlyChains r after =
+    after ≡ recordsOf (after .chains) (r .residueKeys) (r .residueNames) (r .residueMarks) (r .atomKeys) (r .atomNames) (r .elements) (r .positions) (r .occupancies)
+
+-- No slice is longer or shorter. Where the site had no room, residues and atoms are as they were, and that is what it lacked of any model that the slices and counts held; else no
+-- chain is forgotten, it lacked none, and they hold the model with the site, if the greatest number is above its count of rows.
 abbrev pub Did : Records → Room → Held → Site → Put → Records → Type 0
-Did r room h s (NoRoom kind) after = SameLengths r after × ((st : State) → HoldsApart r room h st → Proper s → lacking room st (site s) ≡ Of kind)
+Did r room h s (NoRoom kind) after = SameLengths r after × OnlyChains r after × ((st : State) → HoldsApart r room h st → Proper s → lacking room st (site s) ≡ Of kind)
 Did r room h s (Done d) after =
     SameLengths r after
+    × (h .counts .chains ≤ d .counts .chains)
     × ((st : State) → HoldsApart r room h st → Proper s
     → (lacking room st (site s) ≡ Nothing) × (suc (st .rows) < 2 ^ 64 → HoldsApart after room d (step st (site s))))

@@ -1,174 +1,122 @@
--- Lines under way: from wherever the reading stands, its finish is the target, so that the last line leaves the target itself.
+-- Rows under way: from wherever the reading stands, its finish is the target, so that the last row leaves the target itself. Whoever holds the chain list finds the chain of the
+-- row that waits, stores its name there, and has its run taken.
 use mathlib.Core.Path.{_≡_, refl, sym, ap, _∙_, subst}
-use mathlib.Core.List.{List, _∷_}
-use Prim.Native.Nat.{ℕ, suc, _+_, _-_, _^_, _≤_, _<_}
-use native.Mathlib.Numerals.{add-one}
+use mathlib.Core.Bool.{true, false, false≢true}
+use mathlib.Core.List.{List}
+use Prim.Native.Nat.{ℕ, _≤_, _<_}
 use native.Mathlib.Omega.{arith}
-use lib.ListN.{length, take, drop, drop-of-length-le}
-use Rattle.lines.specs.Lines.{linesOf, LineAt}
-use Rattle.lines.specs.declared.lines.Line.{Line}
+use lib.ListN.{length, take, drop, set, length-set, drop-of-length-le}
+use lib.Seq.{set-set}
+use Rattle.lines.specs.Lines.{linesOf}
 use Rattle.rows.specs.declared.settings.Settings.{Settings}
-use Rattle.line_states.specs.Heads.{startHeads}
-use Rattle.line_states.specs.States.{movedBy}
 use Rattle.line_states.specs.declared.heads.Heads.{Heads}
 use Rattle.model.specs.Fold.{State, start}
 use Rattle.model.specs.declared.room.Room.{Room}
-use Rattle.building.specs.Gaps.{noneHeld, HoldsApart}
 use Rattle.building.specs.Holds.{Records, Within, SameLengths}
-use Rattle.building.specs.declared.held.Held.{Held}
+use Rattle.building.specs.Slices.{ChainFound}
+use Rattle.building.proofs.ChainsStored.{met-stay, storedIn, stored-held}
 use Rattle.building.proofs.SiteLaws.{start-held}
-use Rattle.acts.specs.Acts.{Asked}
-use Rattle.acts.specs.Making.{Making, going, halted, done, andThen, made}
-use Rattle.acts.specs.Standing.{Stands, FiniteIn, Acts, ahead, Passes}
-use Rattle.acts.specs.declared.act.Act.{Act}
+use Rattle.acts.specs.Making.{Making, going, halted, andThen, made}
+use Rattle.acts.specs.Standing.{Stands, ahead, Passes}
 use Rattle.acts.specs.declared.doing.Halt.{Halt}
 use Rattle.acts.specs.declared.doing.Halt.the-variants.{Going, Refused}
-use Rattle.acts.specs.declared.doing.Standing.{Standing}
 use Rattle.acts.proofs.LengthLaws.{lengths-same, lengths-then}
-use Rattle.acts.proofs.MadeByRows.{done-goes}
-use Rattle.acts.proofs.RowsGrow.{RowsWithin, rows-grow}
-use Rattle.mmcif.specs.declared.plans.Plan.{Plan}
-use Rattle.mmcif.specs.Acts.{lineAct, actsFrom, actsOf}
-use Rattle.mmcif.specs.Plans.{planOf, onwardTo}
-use Rattle.mmcif.proofs.LineActs.{short-enough, act-finite}
-use Rattle.mmcif.proofs.PlanLaws.{plan-act, plan-heads}
+use Rattle.mmcif.specs.declared.stages.Stage.{Stage}
+use Rattle.mmcif.specs.declared.stages.Waiting.{Waiting}
+use Rattle.mmcif.specs.declared.stages.Waiting.the-variants.{Nothing, Row}
+use Rattle.mmcif.specs.Acts.{actsFrom, actsOf}
+use Rattle.mmcif.specs.Stages.{chainIn, isWaiting, firstStage, left, met, Inside, rest, Between, ReachedBy, Reached, GoesOnTo, TakesRun}
 
--- ---- the invariant
+-- the slices were the first records, and are r now
+pub record UnderWay (text : List ℕ) (settings : Settings) (room : Room) (first : Records) (target : Making) (s : Stage) (r : Records) : Type 0 where
+  pub inside : Inside text s
+  pub stops : isWaiting (s .waiting) ≡ false → length text ≤ s .at
+  pub lengths : SameLengths first r
+  pub reached : Within room first → Reached text settings room target s r
 
--- a line is at most one row, and a refusal has ended the text
-abbrev Placed : List ℕ → ℕ → ℕ → Making → Type 0
-Placed text number at (going st) = st .rows < number
-Placed text number at (halted why) = at ≡ length text
+-- ---- before the first row
+first-inside : (text : List ℕ) (halt : Halt) → Inside text (firstStage halt (length text))
+first-inside text Going = (omega arith, omega arith)
+first-inside text (Refused why) = (omega arith, omega arith)
 
-module _ (text : List ℕ) (settings : Settings) (room : Room) where
-  -- what the lines make from a place of the text on, the first of them with this number, in this state
-  abbrev rest : ℕ → ℕ → Heads → State → Making
-  rest number at heads st = made room st (actsFrom settings number heads (linesOf (drop at text)))
+first-reached : (text : List ℕ) (settings : Settings) (room : Room) (r : Records) (halt : Halt) → Within room r
+    → Between text settings room (ahead halt (made room start (actsOf settings text))) (firstStage halt (length text)) r
+first-reached text settings room r Going w = record { making = going start; stands = (refl, start-held r room w); placed = omega arith; finish = refl }
+first-reached text settings room r (Refused why) w = record { making = halted why; stands = refl; placed = refl; finish = refl }
 
-  pub record Reached (target : Making) (number at : ℕ) (heads : Heads) (s : Standing) (r : Records) : Type 0 where
-    pub making : Making
-    pub stands : Stands room r s making
-    pub placed : Placed text number at making
-    pub finish : andThen making (rest number at heads) ≡ target
-
-  -- the next line begins at this place of the text and has this number; the slices were the first records, and are r now
-  pub record UnderWay (first : Records) (target : Making) (number at : ℕ) (heads : Heads) (s : Standing) (r : Records) : Type 0 where
-    pub inside : at ≤ length text
-    pub numbered : number ≤ at + 1
-    pub lengths : SameLengths first r
-    pub reached : Within room first → Reached target number at heads s r
-
--- ---- before the first line
-pub begins : (text : List ℕ) (settings : Settings) (room : Room) (r : Records) (heads : Heads) (s : Standing) (at : ℕ) → heads ≡ startHeads → s .held ≡ noneHeld → at ≡ onwardTo (s .halt) 0 (length text)
-    → UnderWay text settings room r (ahead (s .halt) (made room start (actsOf settings text))) 1 at heads s r
-begins text settings room r heads s at h c = go (s .halt) refl
-  where
-    go : (halt : Halt) → s .halt ≡ halt → at ≡ onwardTo halt 0 (length text) → UnderWay text settings room r (ahead halt (made room start (actsOf settings text))) 1 at heads s r
-    go Going e place = record {
-      inside = omega arith;
-      numbered = omega arith;
-      lengths = lengths-same r;
-      reached = λ w. record {
-        making = going start;
-        stands = (e, subst (λ (h : Held). HoldsApart r room h start) (sym c) (start-held r room w));
-        placed = omega arith;
-        finish = λ i. made room start (actsFrom settings 1 (h i) (linesOf (drop (place i) text)));
-      };
-    }
-    go (Refused why) e place = record {
-      inside = omega arith;
-      numbered = omega arith;
-      lengths = lengths-same r;
-      reached = λ w. record { making = halted why; stands = e; placed = place; finish = refl };
-    }
+pub begins : (text : List ℕ) (settings : Settings) (room : Room) (r : Records) (halt : Halt) (s : Stage) → GoesOnTo text settings (firstStage halt (length text)) s
+    → UnderWay text settings room r (ahead halt (made room start (actsOf settings text))) s r
+begins text settings room r halt s g = record {
+  inside = g .inside (first-inside text halt);
+  stops = g .stops;
+  lengths = lengths-same r;
+  reached = λ w. g .reached (first-inside text halt) room (ahead halt (made room start (actsOf settings text))) r (first-reached text settings room r halt w);
+}
 
 -- ---- after the last
 none-left : (text : List ℕ) (settings : Settings) (room : Room) (number at : ℕ) (heads : Heads) (st : State) → length text ≤ at → made room st (actsFrom settings number heads (linesOf (drop at text))) ≡ going st
 unfolding made actsFrom linesOf
 none-left text settings room number at heads st h = rw (drop-of-length-le text h)
 
-pub ends : {text : List ℕ} {settings : Settings} {room : Room} {first : Records} {target : Making} {number at : ℕ} {heads : Heads} {s : Standing} {r : Records}
-    → UnderWay text settings room first target number at heads s r → length text ≤ at → Passes first room target s r
-ends {text} {settings} {room} {first} {target} {number} {at} {heads} {s} {r} u h = record {
-  lengths = u .lengths;
-  stands = λ w. let q = u .reached w in subst (Stands room r s) (here (q .making) ∙ q .finish) (q .stands);
-}
-  where
-    here : (m : Making) → m ≡ andThen m (λ st. made room st (actsFrom settings number heads (linesOf (drop at text))))
-    here (going st) = sym (none-left text settings room number at heads st h)
-    here (halted why) = refl
+module _ {text : List ℕ} {settings : Settings} {room : Room} {first : Records} {target : Making} {s : Stage} {r : Records} (u : UnderWay text settings room first target s r) where
+  pub ends : isWaiting (s .waiting) ≡ false → Passes first room target (s .standing) r
+  ends none = record { lengths = u .lengths; stands = λ w. by-waiting (s .waiting) none (u .reached w) }
+    where
+      here : (m : Making) → m ≡ andThen m (rest text settings room s)
+      here (going st) = sym (none-left text settings room (s .number) (s .at) (s .heads) st (u .stops none))
+      here (halted why) = refl
 
--- ---- a line
-first-then : (settings : Settings) (room : Room) (number : ℕ) (heads : Heads) (st : State) (line : List ℕ) (lines : List (List ℕ))
-    → made room st (actsFrom settings number heads (line ∷ lines))
-    ≡ andThen (done room st (record { line = number; act = lineAct settings heads line })) (λ s. made room s (actsFrom settings (suc number) (movedBy heads line .heads) lines))
-unfolding made actsFrom
-first-then settings room number heads st line lines = refl
+      by-waiting : (w : Waiting) → isWaiting w ≡ false → ReachedBy w text settings room target s r → Stands room r (s .standing) target
+      by-waiting Nothing e q = subst (Stands room r (s .standing)) (here (q .making) ∙ q .finish) (q .stands)
+      by-waiting (Row line site) e q = absurd (false≢true (sym e))
 
--- where to read on lies further on in the text
-pub moves : (text : List ℕ) (at next : ℕ) (line : Line) (halt : Halt) → LineAt text at line → at < length text → next ≡ onwardTo halt (line .next) (length text)
-    → (at < next) × (next ≤ length text)
-moves text at next line Going l more e = (omega (arith, l .moves), omega (arith, l .inside))
-moves text at next line (Refused why) l more e = (omega arith, omega arith)
+  -- ---- a run, its chain found at this place, where the name is stored
+  module _ (waits : isWaiting (s .waiting) ≡ true) (place : ℕ) (found : ChainFound (take (met s) (r .chains)) (chainIn (s .waiting)) place) where
+    abbrev name : ℕ
+    name = chainIn (s .waiting)
 
-module _ (text : List ℕ) (settings : Settings) (room : Room) (first : Records) (target : Making) (number at : ℕ) (heads : Heads) (from : Standing) (r : Records)
-    (more : at < length text) (few : length text < 2 ^ 64) (line : Line) (l : LineAt text at line) where
-  abbrev bytes : List ℕ
-  bytes = take (line .end - at) (drop at text)
+    abbrev stored : Records
+    stored = storedIn r place name
 
-  abbrev asked : Act → Asked
-  asked act = record { line = number; act = act }
+    lengths-stored : SameLengths r stored
+    lengths-stored = record {
+      chains = length-set (r .chains) place name;
+      residueKeys = refl;
+      residueNames = refl;
+      residueMarks = refl;
+      atomKeys = refl;
+      atomNames = refl;
+      elements = refl;
+      positions = refl;
+      occupancies = refl;
+    }
 
-  module _ (plan : Plan) (planned : plan ≡ planOf settings heads bytes) (to : Standing) (after : Records) (acts : Acts r room (from .held) (asked (plan .act)) to after)
-      (next : ℕ) (onward : next ≡ onwardTo (to .halt) (line .next) (length text)) where
-    -- the plan's act is the line's
-    act-is : plan .act ≡ lineAct settings heads bytes
-    act-is = ap (λ (p : Plan). p .act) planned ∙ plan-act settings heads bytes
+    found-stored : ChainFound (take (met s) (stored .chains)) name place
+    found-stored = subst (λ (l : List ℕ). ChainFound l name place) (sym (met-stay (r .chains) (met s) name place found)) found
 
-    abbrev here : State → Making
-    here st = done room st (asked (lineAct settings heads bytes))
-
-    line-done : (st : State) → HoldsApart r room (from .held) st → suc (st .rows) < 2 ^ 64 → Stands room after to (here st)
-    line-done st holds small =
-        subst (λ (a : Act). Stands room after to (done room st (asked a))) act-is
-        (acts .stands st holds small (subst FiniteIn (sym act-is) (act-finite settings heads bytes)))
-
-    next-placed : (rows : ℕ) (m : Making) → rows < number → Stands room after to m → RowsWithin (suc rows) m → Placed text (number + 1) next m
-    next-placed rows (going s) low stands grown = omega arith
-    next-placed rows (halted why) low stands grown = onward ∙ ap (λ (halt : Halt). onwardTo halt (line .next) (length text)) stands
-
-    same-finish : (st : State) (m : Making) → here st ≡ m → Stands room after to m
-        → andThen m (λ s. made room s (actsFrom settings (number + 1) (plan .heads) (linesOf (drop next text))))
-        ≡ andThen m (λ s. made room s (actsFrom settings (suc number) (movedBy heads bytes .heads) (linesOf (drop (line .next) text))))
-    same-finish st (going s) e stands =
-        let place : next ≡ line .next = onward ∙ ap (λ (halt : Halt). onwardTo halt (line .next) (length text)) (stands .0) in
-        let short = short-enough settings heads bytes (done-goes room st (asked (lineAct settings heads bytes)) s e) in
-        let same : plan .heads ≡ movedBy heads bytes .heads = ap (λ (p : Plan). p .heads) planned ∙ plan-heads settings heads bytes short in
-        λ i. made room s (actsFrom settings (add-one number i) (same i) (linesOf (drop (place i) text)))
-    same-finish st (halted why) e stands = refl
-
-    further : number ≤ at + 1 → (m : Making) → Stands room r from m → Placed text number at m
-        → andThen m (λ s. made room s (actsFrom settings number heads (linesOf (drop at text)))) ≡ target → Reached text settings room target (number + 1) next (plan .heads) to after
-    further numbered (halted why) stands placed finish = absurd (omega arith)
-    further numbered (going st) stands placed finish =
-        let then = line-done st (stands .1) (omega arith) in
-        record {
-          making = here st;
-          stands = then;
-          placed = next-placed (st .rows) (here st) placed then (rows-grow room st number (lineAct settings heads bytes));
-          finish =
-              same-finish st (here st) refl then
-              ∙ sym (first-then settings room number heads st bytes (linesOf (drop (line .next) text)))
-              ∙ ap (λ (lines : List (List ℕ)). made room st (actsFrom settings number heads lines)) (sym (l .lines))
-              ∙ finish;
+    reached-stored : Reached text settings room target s r → Reached text settings room target s stored
+    reached-stored = go (s .waiting) waits
+      where
+        go : (w : Waiting) → isWaiting w ≡ true → ReachedBy w text settings room target s r → ReachedBy w text settings room target s stored
+        go Nothing e q = absurd (false≢true e)
+        go (Row line site) e q = record {
+          st = q .st;
+          going = q .going;
+          holds = stored-held r room (s .standing .held) (q .st) name place found (q .holds);
+          rows = q .rows;
+          numbered = q .numbered;
+          finite = q .finite;
+          finish = q .finish;
         }
 
-    pub turn : UnderWay text settings room first target number at heads from r → UnderWay text settings room first target (number + 1) next (plan .heads) to after
-    turn u =
-        let m = moves text at next line (to .halt) l more onward in
-        record {
-          inside = m .1;
-          numbered = omega (arith, m .0, u .numbered);
-          lengths = lengths-then (u .lengths) (acts .lengths);
-          reached = λ w. let q = u .reached w in further (u .numbered) (q .making) (q .stands) (q .placed) (q .finish);
-        }
+    module _ (to : Stage) (after : Records) (t : TakesRun text settings room place s to stored after) where
+      pub turn : UnderWay text settings room first target to after
+      turn = record {
+        inside = t .inside (u .inside);
+        stops = t .stops waits;
+        lengths = lengths-then (lengths-then (u .lengths) lengths-stored) (t .lengths);
+        reached = λ w. t .reached (u .inside) waits found-stored (set-set (r .chains) place name name) target (reached-stored (u .reached w));
+      }
+
+      pub fewer : left text to < left text s
+      fewer = t .fewer waits

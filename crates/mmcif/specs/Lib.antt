@@ -1,3 +1,4 @@
 pub mod Acts
 pub mod Plans
 pub mod Rows
+pub mod Stages

@@ -1,28 +1,19 @@
-// One line after the other: what each asks for is done to the slices, up to the first refusal.
-use crate::plans::plan_of;
+// Run after run, up to the first refusal: the chain of a run is looked for in the list, or appended to it, and its rows are put in by its place.
+use crate::stages::chain_in;
+use crate::stages::first_row;
+use crate::stages::take_run;
+use crate::stages::waits;
 use acts::Halt;
 use acts::Standing;
-use acts::do_act;
-use building::none_held;
+use building::chain_place;
+use field_slices::store_u64;
 use model::Room;
 use rows::Settings;
-ghost use mathlib.Core.Path.{_≡_};
 ghost use Rattle.model.specs.Fold.{start};
 ghost use Rattle.building.specs.Holds.{records};
 ghost use Rattle.acts.specs.Making.{made};
 ghost use Rattle.acts.specs.Standing.{ahead, Passes};
 ghost use Rattle.mmcif.specs.Acts.{actsOf};
-ghost use Rattle.mmcif.specs.Plans.{onwardTo};
-
-// Where to read on: a refusal ends the text.
-fn onward(halt: Halt, next: usize, size: usize) -> usize
-    ensures { λ r. ⌜ r ≡ onwardTo halt next size ⌝ }
-{
-    match halt {
-        Halt::Going => next,
-        Halt::Refused(_) => size,
-    }
-}
 
 // The lines of the text, unless it was refused before them.
 pub fn read_lines(
@@ -43,19 +34,16 @@ pub fn read_lines(
     ensures { λ r. ⌜ (let l = records chains «residue_keys» «residue_names» «residue_marks» «atom_keys» «atom_names» elements positions occupancies in
         Passes (l .entry) room (ahead halt (made room start (actsOf settings (now (text .entry))))) r (l .exit)) ⌝ }
 {
-    let mut heads = line_states::start_heads();
-    let held = none_held();
-    let mut standing = Standing { held, halt };
-    let mut number = 1;
-    let mut at = onward(halt, 0, text.len());
-    while at < text.len() {
-        let line = lines::line_from(text, at);
-        let end = line.end;
-        let plan = plan_of(settings, heads, &text[at..end]);
-        let act = plan.act;
+    let mut stage = first_row(text, settings, halt);
+    while waits(stage) {
+        let name = chain_in(stage);
+        let standing = stage.standing;
         let held = standing.held;
-        standing = do_act(
-            chains,
+        let counts = held.counts;
+        let place = chain_place(chains, counts.chains, name);
+        store_u64(chains, place, name);
+        stage = take_run(
+            text,
             residue_keys,
             residue_names,
             residue_marks,
@@ -64,15 +52,12 @@ pub fn read_lines(
             elements,
             positions,
             occupancies,
+            settings,
             room,
-            number,
-            held,
-            act,
+            stage,
+            place,
         );
-        heads = plan.heads;
-        let halted = standing.halt;
-        at = onward(halted, line.next, text.len());
-        number += 1;
     }
+    let standing = stage.standing;
     standing
 }

@@ -1,7 +1,7 @@
 -- What lacks the room is what the model lacks, and else what is stored is the model's next step: whatever the chain list, in which the site's chain was found.
 use mathlib.Core.Path.{_≡_, refl, sym, _∙_, subst}
 use mathlib.Core.List.{List}
-use Prim.Native.Nat.{ℕ}
+use Prim.Native.Nat.{ℕ, _≤_}
 use lib.ListN.{set, length-set}
 use Rattle.model.specs.Fold.{step}
 use Rattle.model.specs.Taken.{site}
@@ -9,7 +9,8 @@ use Rattle.model.specs.declared.room.Lack.the-variants.{Nothing}
 use Rattle.building.specs.declared.held.Held.{Held}
 use Rattle.building.specs.Gaps.{HoldsApart}
 use Rattle.building.specs.Holds.{Records, recordsOf}
-use Rattle.building.specs.Sites.{lackOf, Placed}
+use Rattle.building.specs.Sites.{isNewChain, lackOf, Placed}
+use Rattle.building.proofs.CountLaws.{no-fewer}
 use Rattle.building.proofs.RoomInSlices.{lengths-stay}
 use Rattle.building.proofs.SiteLaws.{lack-is, site-held}
 use borrow.Author.Needs.{needs}
@@ -58,6 +59,7 @@ returns c =
         positions = refl;
         occupancies = refl;
       },
+      refl,
       λ st h w. sym (lack-is (entry start chains) (a .room) (a .held) (a .site) (q .result) (a .place) found (q .ensures) st h w) ∙ sym (c .before .before .before .lack-of .ensures) ∙ c .before .lack .given .1,
     )
 
@@ -106,6 +108,7 @@ returns-2 c =
     let stored : Placed r (a .held) (q .result) (a .site) after
     = subst (λ (n : ℕ). Placed r (a .held) (q .result) (a .site) (left (c .before .before .before .before .before .before .before .before .before .before .before .before .before .before .before .before) (set chains n (a .site .chain)))) (q .ensures .chain) (c .before .before .before .before .before .before .before .before .before .before .before .before .before .before .before .before .store-site .ensures chains) in (
       lengths-stay {r = r} {after = after} stored,
+      subst (λ (d : Held). a .held .counts .chains ≤ d .counts .chains) (sym (c .held-with .ensures)) (no-fewer (a .held .counts .chains) (isNewChain (a .held .counts) (q .result))),
       λ st h w. (
         sym (lack-is r (a .room) (a .held) (a .site) (q .result) (a .place) found (q .ensures) st h w) ∙ roomy,
         λ few. subst (λ (d : Held). HoldsApart after (a .room) d (step st (site (a .site)))) (sym (c .held-with .ensures))
