@@ -1,5 +1,5 @@
 -- A slice that is cleared from a count on holds the first entries, and zeros after them.
-use mathlib.Core.Path.{_≡_, refl}
+use mathlib.Core.Path.{_≡_, refl, sym, ap, _∙_}
 use mathlib.Core.List.{List, [], _++_}
 use Prim.Native.Nat.{ℕ, _-_}
 use lib.Ieee.{Float}
@@ -75,3 +75,8 @@ all-cleared l = cleared-as-long l l (record {
   positions = refl;
   occupancies = refl;
 })
+
+-- and so they do where another clears the chains
+pub none-left : (l : Lent) (left : List ℕ → Lent) {kept : Room} → kept ≡ noRecords → left (cleared 0 (kept .chains) (l .chains)) ≡ clearedFrom l kept
+    → left (cleared 0 0 (l .chains)) ≡ holding l emptyModel
+none-left l left w e = ap (λ (k : Room). left (cleared 0 (k .chains) (l .chains))) (sym w) ∙ e ∙ ap (clearedFrom l) w ∙ all-cleared l

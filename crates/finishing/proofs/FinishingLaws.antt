@@ -24,7 +24,7 @@ use Rattle.finishing.specs.declared.finished.Finish.the-variants.{Unknow
 use Rattle.finishing.specs.Classing.{classAt, unknownAt, firstPlace, Classified}
 use Rattle.finishing.specs.Clearing.{clearedFrom}
 use Rattle.finishing.specs.Filling.{filled}
-use Rattle.finishing.specs.Finishing.{answerOf, leftBy, Ends, keptBy, finishBy}
+use Rattle.finishing.specs.Finishing.{answerOf, leftBy, chainsKept, Ends, keptBy, finishBy}
 use Rattle.finishing.specs.Positioning.{positionAt}
 use Rattle.finishing.proofs.ClearingLaws.{cleared-padded, AsLong, cleared-as-long}
 use Rattle.finishing.proofs.EntriesWalked.{atomsOf, atomKeysIn, class-at, unknown-at}
@@ -181,6 +181,14 @@ none-kept (suc place) c n = refl
 pub unknown-finish : (place : ℕ) → (place ≡ 0 → ⊥) → Unknown place ≡ finishBy place
 unknown-finish zero n = absurd (n refl)
 unknown-finish (suc place) n = refl
+
+chains-kept-by : (place : ℕ) (c : Counts) → chainsKept (finishBy place) c ≡ keptBy place c .chains
+chains-kept-by zero c = refl
+chains-kept-by (suc place) c = refl
+
+-- by the answer as many chains stay as by the place
+pub chains-kept : (place : ℕ) (c : Counts) {kept : Room} → kept ≡ keptBy place c → {answer : Finish} → answer ≡ finishBy place → chainsKept answer c ≡ kept .chains
+chains-kept place c w f = ap (λ (a : Finish). chainsKept a c) f ∙ chains-kept-by place c ∙ sym (ap (λ (k : Room). k .chains) w)
 
 pub model-ends : (l : Lent) (c : Counts) (r : ℕ) (names codes categories : List ℕ)
     → Classified (l .residueKeys) (l .residueNames) (l .residueCodes) (l .residueCategories) (atomKeysIn l c) (c .residues) r names codes categories

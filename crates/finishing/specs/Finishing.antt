@@ -19,6 +19,11 @@ abbrev pub leftBy : Lent → Finished → Lent
 leftBy l (unknown place) = holding l emptyModel
 leftBy l (known m) = holding l m
 
+-- how many chains stay, of those counted
+abbrev pub chainsKept : Finish → Counts → ℕ
+chainsKept (Unknown place) c = 0
+chainsKept Known c = c .chains
+
 -- of any model that the slices and counts held, with an atom to each residue: the answer is that of the finished model, and it is what they hold
 abbrev pub Ends : Lent → Counts → Finish → Lent → Type 0
 Ends l c r after =

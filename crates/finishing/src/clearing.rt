@@ -1,11 +1,14 @@
 // Every record zero from its count on.
 use model::Room;
+ghost use mathlib.Core.List.{List};
 ghost use mathlib.Core.Path.{_≡_};
-ghost use Rattle.model.specs.Lent.{lent};
+ghost use Prim.Native.Nat.{ℕ};
+ghost use Rattle.field_slices.specs.Clearing.{cleared};
+ghost use Rattle.model.specs.Lent.{lentBy};
 ghost use Rattle.finishing.specs.Clearing.{clearedFrom};
 
+// Whoever holds the chains clears them.
 pub fn clear_records(
-    chains: &mut [u64],
     residue_keys: &mut [u64],
     residue_names: &mut [u64],
     residue_codes: &mut [u8],
@@ -18,12 +21,12 @@ pub fn clear_records(
     occupancies: &mut [f64],
     kept: Room,
 )
-    ensures { λ _. ⌜ (let l = lent chains «residue_keys» «residue_names» «residue_codes» «residue_categories» «residue_positions» «atom_keys» «atom_names» elements positions occupancies in
+    ensures { λ _. ⌜ ((names : List ℕ) →
+        let l = lentBy (record { entry = names; exit = cleared 0 (kept .chains) names }) «residue_keys» «residue_names» «residue_codes» «residue_categories» «residue_positions» «atom_keys» «atom_names» elements positions occupancies in
         l .exit ≡ clearedFrom (l .entry) kept) ⌝ }
 {
     let residues = kept.residues;
     let atoms = kept.atoms;
-    field_slices::clear_u64_from(chains, kept.chains);
     field_slices::clear_u64_from(residue_keys, residues);
     field_slices::clear_u64_from(residue_names, residues);
     field_slices::clear_u8_from(residue_codes, residues);

@@ -6,12 +6,15 @@ use building::Counts;
 use building::sizes_of;
 use model::Room;
 use model::no_records;
+ghost use mathlib.Core.List.{List};
 ghost use mathlib.Core.Path.{_≡_};
-ghost use Rattle.model.specs.Lent.{lent};
-ghost use Rattle.finishing.specs.Finishing.{keptBy, finishBy, Ends};
+ghost use Prim.Native.Nat.{ℕ};
+ghost use Rattle.field_slices.specs.Clearing.{cleared};
+ghost use Rattle.model.specs.Lent.{lentBy};
+ghost use Rattle.finishing.specs.Finishing.{keptBy, finishBy, chainsKept, Ends};
 
 pub enum Finish {
-    // The first unknown residue's place, from 1 over the model. All records are zero.
+    // The first unknown residue's place, from 1 over the model. No record stays.
     Unknown(usize),
     Known,
 }
@@ -36,9 +39,8 @@ fn finish_by(unknown: usize) -> Finish
 }
 
 // Once all rows are in: until now the HETATM marks, 0 or 1, stood where the categories are to be, and the slices of codes and positions held
-// anything. Where a residue is unknown the positions are of no use, and all records are cleared.
+// anything. Where a residue is unknown the positions are of no use, and all records are cleared. Whoever holds the chains clears them.
 pub fn finish_model(
-    chains: &mut [u64],
     residue_keys: &mut [u64],
     residue_names: &mut [u64],
     residue_codes: &mut [u8],
@@ -51,7 +53,8 @@ pub fn finish_model(
     occupancies: &mut [f64],
     counts: Counts,
 ) -> Finish
-    ensures { λ r. ⌜ (let l = lent chains «residue_keys» «residue_names» «residue_codes» «residue_categories» «residue_positions» «atom_keys» «atom_names» elements positions occupancies in
+    ensures { λ r. ⌜ ((names : List ℕ) →
+        let l = lentBy (record { entry = names; exit = cleared 0 (chainsKept r counts) names }) «residue_keys» «residue_names» «residue_codes» «residue_categories» «residue_positions» «atom_keys» «atom_names» elements positions occupancies in
         Ends (l .entry) counts r (l .exit)) ⌝ }
 {
     let residues = counts.residues;
@@ -66,7 +69,6 @@ pub fn finish_model(
     );
     position_residues(residue_keys, residue_codes, residue_positions, residues);
     clear_records(
-        chains,
         residue_keys,
         residue_names,
         residue_codes,

@@ -1,9 +1,11 @@
 // The room for chains, residues and atoms: the sizes of document 01, and no more than the shortest slice has.
 use field_slices::smaller;
 use refusals::RecordKind;
+ghost use mathlib.Core.List.{List};
 ghost use mathlib.Core.Path.{_≡_};
-ghost use Prim.Native.Nat.{min};
-ghost use Rattle.model.specs.Lent.{lent, roomOf, noRecords};
+ghost use Prim.Native.Nat.{ℕ, min};
+ghost use lib.ListN.{length};
+ghost use Rattle.model.specs.Lent.{lentBy, roomOf, noRecords};
 
 pub struct Room {
     pub chains: usize,
@@ -34,7 +36,7 @@ fn smallest(a: usize, b: usize, c: usize, d: usize, e: usize) -> usize
 }
 
 pub fn room_of(
-    chains: &[u64],
+    chains: usize,
     residue_keys: &[u64],
     residue_names: &[u64],
     residue_codes: &[u8],
@@ -46,7 +48,8 @@ pub fn room_of(
     positions: &[[f64; 3]],
     occupancies: &[f64],
 ) -> Room
-    ensures { λ r. ⌜ (let l = lent chains «residue_keys» «residue_names» «residue_codes» «residue_categories» «residue_positions» «atom_keys» «atom_names» elements positions occupancies .entry in
+    ensures { λ r. ⌜ ((names : List ℕ) → length names ≡ chains →
+        let l = lentBy (record { entry = names; exit = names }) «residue_keys» «residue_names» «residue_codes» «residue_categories» «residue_positions» «atom_keys» «atom_names» elements positions occupancies .entry in
         r ≡ roomOf l) ⌝ }
 {
     let residues = smallest(
@@ -64,7 +67,7 @@ pub fn room_of(
         occupancies.len(),
     );
     Room {
-        chains: smaller(4096, chains.len()),
+        chains: smaller(4096, chains),
         residues: smaller(65536, residues),
         atoms: smaller(1048576, atoms),
     }

@@ -1,6 +1,7 @@
 // `read_by_names`: any bytes in; the model in the lent slices, or a refusal.
 use mmcif::read_lines;
 use readings::Answer;
+use readings::chains_left;
 use readings::close;
 use readings::halted_early;
 use rows::Settings;
@@ -26,7 +27,7 @@ pub fn read_by_names(
         ReadBy settings (l .entry) (now (text .entry)) r (l .exit)) ⌝ }
 {
     let room = model::room_of(
-        chains,
+        chains.len(),
         residue_keys,
         residue_names,
         residue_codes,
@@ -54,8 +55,7 @@ pub fn read_by_names(
         settings,
         room,
     );
-    close(
-        chains,
+    let answer = close(
         residue_keys,
         residue_names,
         residue_codes,
@@ -67,5 +67,7 @@ pub fn read_by_names(
         positions,
         occupancies,
         standing,
-    )
+    );
+    field_slices::clear_u64_from(chains, chains_left(answer));
+    answer
 }

@@ -29,7 +29,8 @@ use Rattle.acts.specs.Standing.{Stands, ahead}
 use Rattle.acts.specs.declared.doing.Halt.{Halt}
 use Rattle.acts.specs.declared.doing.Halt.the-variants.{Going, Refused}
 use Rattle.acts.specs.declared.doing.Standing.{Standing}
-use Rattle.readings.specs.Closing.{haltedBy, haltedEarly, finishedBy, PeopledIn, Leaves}
+use Rattle.readings.specs.declared.answers.Answer.{Answer}
+use Rattle.readings.specs.Closing.{haltedBy, haltedEarly, finishedBy, chainsLeft, PeopledIn, Leaves}
 use Rattle.readings.specs.Reading.{Reading, read, refused, largest, countsOf, finished, atEnd, afterDomain, readingOf, answerOf, leftBy}
 use Rattle.readings.proofs.SlicesOfOneSize.{same-room, same-holding}
 
@@ -78,6 +79,14 @@ finished-as counts (known m) = refl
 left-as : (l : Lent) (counts : Counts) (f : Finished) → finishing.leftBy l f ≡ leftBy l (finished counts f)
 left-as l counts (unknown place) = refl
 left-as l counts (known m) = refl
+
+chains-finished : (f : Finish) (counts : Counts) → chainsLeft (finishedBy f counts) ≡ finishing.chainsKept f counts
+chains-finished (Finish.Unknown place) counts = refl
+chains-finished Finish.Known counts = refl
+
+-- by the answer as many chains stay as by what was finished
+pub finished-leaves : (f : Finish) (counts : Counts) {answer : Answer} → answer ≡ finishedBy f counts → chainsLeft answer ≡ finishing.chainsKept f counts
+finished-leaves f counts e = ap chainsLeft e ∙ chains-finished f counts
 
 pub left-alike : (l between : Lent) → ((m : Model) → holding between m ≡ holding l m) → (reading : Reading) → leftBy between reading ≡ leftBy l reading
 left-alike l between e (read m counts) = e m

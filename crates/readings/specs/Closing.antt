@@ -40,6 +40,11 @@ abbrev pub finishedBy : Finish → Counts → Answer
 finishedBy (Unknown place) counts = Answer.Refused (at 0 (UnknownResidue place))
 finishedBy Known counts = Answer.Read counts
 
+-- how many chains stay
+abbrev pub chainsLeft : Answer → ℕ
+chainsLeft (Answer.Read counts) = counts .chains
+chainsLeft (Answer.Refused why) = 0
+
 -- each residue has an atom
 abbrev pub PeopledIn : Making → Type 0
 PeopledIn (going st) = Peopled st

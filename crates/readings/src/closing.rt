@@ -10,9 +10,12 @@ use finishing::finish_model;
 use model::no_records;
 use refusals::Reason;
 use refusals::Refusal;
+ghost use mathlib.Core.List.{List};
 ghost use mathlib.Core.Path.{_≡_};
-ghost use Rattle.model.specs.Lent.{lent};
-ghost use Rattle.readings.specs.Closing.{finishedBy, Closes};
+ghost use Prim.Native.Nat.{ℕ};
+ghost use Rattle.field_slices.specs.Clearing.{cleared};
+ghost use Rattle.model.specs.Lent.{lentBy};
+ghost use Rattle.readings.specs.Closing.{finishedBy, chainsLeft, Closes};
 
 fn finished_by(finish: Finish, counts: Counts) -> Answer
     ensures { λ r. ⌜ r ≡ finishedBy finish counts ⌝ }
@@ -26,9 +29,18 @@ fn finished_by(finish: Finish, counts: Counts) -> Answer
     }
 }
 
-// All acts are done, or one was refused: then every record is zero.
+// How many chains stay: as many as were read, and none after a refusal.
+pub fn chains_left(answer: Answer) -> usize
+    ensures { λ r. ⌜ r ≡ chainsLeft answer ⌝ }
+{
+    match answer {
+        Answer::Read(counts) => counts.chains,
+        Answer::Refused(_) => 0,
+    }
+}
+
+// All acts are done, or one was refused: then every record is zero. Whoever holds the chains clears them past those that are left.
 pub fn close(
-    chains: &mut [u64],
     residue_keys: &mut [u64],
     residue_names: &mut [u64],
     residue_codes: &mut [u8],
@@ -41,14 +53,14 @@ pub fn close(
     occupancies: &mut [f64],
     standing: Standing,
 ) -> Answer
-    ensures { λ r. ⌜ (let l = lent chains «residue_keys» «residue_names» «residue_codes» «residue_categories» «residue_positions» «atom_keys» «atom_names» elements positions occupancies in
+    ensures { λ r. ⌜ ((names : List ℕ) →
+        let l = lentBy (record { entry = names; exit = cleared 0 (chainsLeft r) names }) «residue_keys» «residue_names» «residue_codes» «residue_categories» «residue_positions» «atom_keys» «atom_names» elements positions occupancies in
         Closes (l .entry) standing r (l .exit)) ⌝ }
 {
     let halt = standing.halt;
     match halt {
         Halt::Refused(why) => {
             clear_records(
-                chains,
                 residue_keys,
                 residue_names,
                 residue_codes,
@@ -78,7 +90,6 @@ pub fn close(
             );
             let counts = held.counts;
             let finish = finish_model(
-                chains,
                 residue_keys,
                 residue_names,
                 residue_codes,

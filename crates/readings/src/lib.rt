@@ -4,5 +4,6 @@ mod closing;
 mod early;
 
 pub use answers::Answer;
+pub use closing::chains_left;
 pub use closing::close;
 pub use early::halted_early;

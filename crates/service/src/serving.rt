@@ -51,8 +51,8 @@ fn write_out(
             counts: counts,
         },
         writer::Answer::Refused(why) => {
+            field_slices::clear_u64_from(chains, 0);
             clear_records(
-                chains,
                 residue_keys,
                 residue_names,
                 residue_codes,

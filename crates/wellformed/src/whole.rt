@@ -98,7 +98,7 @@ pub fn is_well_formed(
         r ≡ wellFormedIn l counts) ⌝ }
 {
     let room = room_of(
-        chains,
+        chains.len(),
         residue_keys,
         residue_names,
         residue_codes,

@@ -1,4 +1,7 @@
--- One equation to a slice, from the function that clears it.
+-- One equation to a slice, from the function that clears it; the chains are cleared by another.
+use mathlib.Core.Path.{refl}
+use mathlib.Core.List.{List}
+use Prim.Native.Nat.{ℕ}
 use Rattle.model.specs.Lent.{Lent}
 use Rattle.finishing.proofs.ClearingLaws.{slices-cleared}
 use borrow.Author.Needs.{needs}
@@ -6,9 +9,9 @@ use Rattle.finishing.proofs.clearing.clear_records.Statement.{statement
 use Rattle.finishing.proofs.clearing.clear_records.Tie as tie
 
 -- the slices at entry
-abbrev entry : tie.Start → Lent
-entry s = record {
-  chains = s .args .chains .now;
+abbrev entry : tie.Start → List ℕ → Lent
+entry s names = record {
+  chains = names;
   residueKeys = s .args .residue-keys .now;
   residueNames = s .args .residue-names .now;
   residueCodes = s .args .residue-codes .now;
@@ -27,9 +30,6 @@ clear-u64-from-requires c κs = search needs
 clear-u64-from-requires-2 : tie.Need-clear-u64-from-requires-2
 clear-u64-from-requires-2 c κs = search needs
 
-clear-u64-from-requires-3 : tie.Need-clear-u64-from-requires-3
-clear-u64-from-requires-3 c κs = search needs
-
 clear-u8-from-requires : tie.Need-clear-u8-from-requires
 clear-u8-from-requires c κs = search needs
 
@@ -39,11 +39,11 @@ clear-u8-from-requires-2 c κs = search needs
 clear-u8-from-requires-3 : tie.Need-clear-u8-from-requires-3
 clear-u8-from-requires-3 c κs = search needs
 
+clear-u64-from-requires-3 : tie.Need-clear-u64-from-requires-3
+clear-u64-from-requires-3 c κs = search needs
+
 clear-u64-from-requires-4 : tie.Need-clear-u64-from-requires-4
 clear-u64-from-requires-4 c κs = search needs
-
-clear-u64-from-requires-5 : tie.Need-clear-u64-from-requires-5
-clear-u64-from-requires-5 c κs = search needs
 
 clear-u8-from-requires-4 : tie.Need-clear-u8-from-requires-4
 clear-u8-from-requires-4 c κs = search needs
@@ -55,50 +55,48 @@ clear-f64-from-requires : tie.Need-clear-f64-from-requires
 clear-f64-from-requires c κs = search needs
 
 same-length : tie.Need-same-length
-same-length c = c .before .before .before .before .before .before .before .before .before .before .before .before .before .before .before .before .before .before .before .before .before .before .before .before .before .before .before .before .before .before .before .before .before .before .before .before .before .before .before .before .chains .given
+same-length c = c .before .before .before .before .before .before .before .before .before .before .before .before .before .before .before .before .before .before .before .before .before .before .before .before .before .before .before .before .before .before .before .before .before .before .before .before .residue-keys .given
 
 same-length-2 : tie.Need-same-length-2
-same-length-2 c = c .before .before .before .before .before .before .before .before .before .before .before .before .before .before .before .before .before .before .before .before .before .before .before .before .before .before .before .before .before .before .before .before .before .before .before .before .residue-keys .given
+same-length-2 c = c .before .before .before .before .before .before .before .before .before .before .before .before .before .before .before .before .before .before .before .before .before .before .before .before .before .before .before .before .before .before .before .before .residue-names .given
 
 same-length-3 : tie.Need-same-length-3
-same-length-3 c = c .before .before .before .before .before .before .before .before .before .before .before .before .before .before .before .before .before .before .before .before .before .before .before .before .before .before .before .before .before .before .before .before .residue-names .given
+same-length-3 c = c .before .before .before .before .before .before .before .before .before .before .before .before .before .before .before .before .before .before .before .before .before .before .before .before .before .before .before .before .residue-codes .given
 
 same-length-4 : tie.Need-same-length-4
-same-length-4 c = c .before .before .before .before .before .before .before .before .before .before .before .before .before .before .before .before .before .before .before .before .before .before .before .before .before .before .before .before .residue-codes .given
+same-length-4 c = c .before .before .before .before .before .before .before .before .before .before .before .before .before .before .before .before .before .before .before .before .before .before .before .before .residue-categories .given
 
 same-length-5 : tie.Need-same-length-5
-same-length-5 c = c .before .before .before .before .before .before .before .before .before .before .before .before .before .before .before .before .before .before .before .before .before .before .before .before .residue-categories .given
+same-length-5 c = c .before .before .before .before .before .before .before .before .before .before .before .before .before .before .before .before .before .before .before .before .residue-positions .given
 
 same-length-6 : tie.Need-same-length-6
-same-length-6 c = c .before .before .before .before .before .before .before .before .before .before .before .before .before .before .before .before .before .before .before .before .residue-positions .given
+same-length-6 c = c .before .before .before .before .before .before .before .before .before .before .before .before .before .before .before .before .atom-keys .given
 
 same-length-7 : tie.Need-same-length-7
-same-length-7 c = c .before .before .before .before .before .before .before .before .before .before .before .before .before .before .before .before .atom-keys .given
+same-length-7 c = c .before .before .before .before .before .before .before .before .before .before .before .before .atom-names .given
 
 same-length-8 : tie.Need-same-length-8
-same-length-8 c = c .before .before .before .before .before .before .before .before .before .before .before .before .atom-names .given
+same-length-8 c = c .before .before .before .before .before .before .before .before .elements .given
 
 same-length-9 : tie.Need-same-length-9
-same-length-9 c = c .before .before .before .before .before .before .before .before .elements .given
+same-length-9 c = c .before .before .before .before .positions .given
 
 same-length-10 : tie.Need-same-length-10
-same-length-10 c = c .before .before .before .before .positions .given
-
-same-length-11 : tie.Need-same-length-11
-same-length-11 c = c .before .occupancies .given
+same-length-10 c = c .before .occupancies .given
 
 returns : tie.Need-returns
 returns c =
-    let t = c .before .before .before .before .before .before .before .before .before .before .before .before .before .before .before .before .before .before .before .before .before .before .before .before .before .before .before .before .before .before .before .before .before .before .before .before .before .before .before .before .before .before .before .before .before .before .before .before .before .before .before .before .before in
-    slices-cleared (entry t) (t .args .kept)
-    (c .before .before .before .before .before .before .before .before .before .before .before .before .before .before .before .before .before .before .before .before .before .before .before .before .before .before .before .before .before .before .before .before .before .before .before .before .before .before .before .before .before .clear-u64-from .ensures)
-    (c .before .before .before .before .before .before .before .before .before .before .before .before .before .before .before .before .before .before .before .before .before .before .before .before .before .before .before .before .before .before .before .before .before .before .before .before .before .clear-u64-from2 .ensures)
-    (c .before .before .before .before .before .before .before .before .before .before .before .before .before .before .before .before .before .before .before .before .before .before .before .before .before .before .before .before .before .before .before .before .before .clear-u64-from3 .ensures)
+    let t = c .before .before .before .before .before .before .before .before .before .before .before .before .before .before .before .before .before .before .before .before .before .before .before .before .before .before .before .before .before .before .before .before .before .before .before .before .before .before .before .before .before .before .before .before .before .before .before .before in
+    λ names.
+    slices-cleared (entry t names) (t .args .kept)
+    refl
+    (c .before .before .before .before .before .before .before .before .before .before .before .before .before .before .before .before .before .before .before .before .before .before .before .before .before .before .before .before .before .before .before .before .before .before .before .before .before .clear-u64-from .ensures)
+    (c .before .before .before .before .before .before .before .before .before .before .before .before .before .before .before .before .before .before .before .before .before .before .before .before .before .before .before .before .before .before .before .before .before .clear-u64-from2 .ensures)
     (c .before .before .before .before .before .before .before .before .before .before .before .before .before .before .before .before .before .before .before .before .before .before .before .before .before .before .before .before .before .clear-u8-from .ensures)
     (c .before .before .before .before .before .before .before .before .before .before .before .before .before .before .before .before .before .before .before .before .before .before .before .before .before .clear-u8-from2 .ensures)
     (c .before .before .before .before .before .before .before .before .before .before .before .before .before .before .before .before .before .before .before .before .before .clear-u8-from3 .ensures)
-    (c .before .before .before .before .before .before .before .before .before .before .before .before .before .before .before .before .before .clear-u64-from4 .ensures)
-    (c .before .before .before .before .before .before .before .before .before .before .before .before .before .clear-u64-from5 .ensures)
+    (c .before .before .before .before .before .before .before .before .before .before .before .before .before .before .before .before .before .clear-u64-from3 .ensures)
+    (c .before .before .before .before .before .before .before .before .before .before .before .before .before .clear-u64-from4 .ensures)
     (c .before .before .before .before .before .before .before .before .before .clear-u8-from4 .ensures)
     (c .before .before .before .before .before .clear-point-from .ensures)
     (c .before .before .clear-f64-from .ensures)
@@ -109,12 +107,11 @@ clear-records-spec =
     (tie.spec
     clear-u64-from-requires
     clear-u64-from-requires-2
-    clear-u64-from-requires-3
     clear-u8-from-requires
     clear-u8-from-requires-2
     clear-u8-from-requires-3
+    clear-u64-from-requires-3
     clear-u64-from-requires-4
-    clear-u64-from-requires-5
     clear-u8-from-requires-4
     clear-point-from-requires
     clear-f64-from-requires
@@ -128,5 +125,4 @@ clear-records-spec =
     same-length-8
     same-length-9
     same-length-10
-    same-length-11
     returns)

@@ -1,5 +1,5 @@
--- One minimum for chains, and for residues and atoms the least of the slices' lengths against the size.
-use mathlib.Core.Path.{ap, _∙_}
+-- One minimum for chains, of which there are as many as names, and for residues and atoms the least of the slices' lengths against the size.
+use mathlib.Core.Path.{sym, ap, _∙_}
 use Prim.Native.Nat.{min}
 use borrow.Author.Needs.{needs}
 use Rattle.model.specs.Lent.{roomOf}
@@ -27,7 +27,9 @@ returns c =
     let p = c .before .before .before in
     let residues = c .before .smaller2 .ensures ∙ ap (min 65536) (p .before .smallest .ensures) in
     let atoms = c .smaller3 .ensures ∙ ap (min 1048576) (p .smallest2 .ensures) in
-    λ i. record { chains = c .before .before .smaller .ensures i; residues = residues i; atoms = atoms i }
+    λ names many.
+    let chains = c .before .before .smaller .ensures ∙ ap (min 4096) (sym many) in
+    λ i. record { chains = chains i; residues = residues i; atoms = atoms i }
 
 pub room-of-spec : {M : Type 1} → statement M
 room-of-spec = tie.close (tie.spec smallest-requires smallest-requires-2 smaller-requires smaller-requires-2 smaller-requires-3 returns)

@@ -1,19 +1,23 @@
--- A refusal is told and all is cleared; else the records are gathered, and the finished model is left.
+-- A refusal is told and all is cleared; else the records are gathered, and the finished model is left. The chains are so where another clears them by the
+-- answer.
 use mathlib.Core.Path.{refl, sym, ap, _∙_}
+use mathlib.Core.List.{List}
+use Prim.Native.Nat.{ℕ}
+use Rattle.field_slices.specs.Clearing.{cleared}
 use Rattle.model.specs.Lent.{Lent, roomOf}
 use Rattle.building.specs.Holds.{recordsIn}
-use Rattle.finishing.specs.Clearing.{clearedFrom}
-use Rattle.finishing.proofs.ClearingLaws.{all-cleared}
+use Rattle.finishing.proofs.ClearingLaws.{none-left}
+use Rattle.finishing.proofs.GivenBack.{givenBack}
 use Rattle.readings.specs.Reading.{answerOf, leftBy}
-use Rattle.readings.proofs.EndOfReading.{refused-stays, finished-ends}
+use Rattle.readings.proofs.EndOfReading.{refused-stays, finished-ends, finished-leaves}
 use borrow.Author.Needs.{needs}
 use Rattle.readings.proofs.closing.close.Statement.{statement}
 use Rattle.readings.proofs.closing.close.Tie as tie
 
 -- the slices at entry, and gathered
-abbrev entry : tie.Start → Lent
-entry s = record {
-  chains = s .args .chains .now;
+abbrev entry : tie.Start → List ℕ → Lent
+entry s names = record {
+  chains = names;
   residueKeys = s .args .residue-keys .now;
   residueNames = s .args .residue-names .now;
   residueCodes = s .args .residue-codes .now;
@@ -26,9 +30,9 @@ entry s = record {
   occupancies = s .args .occupancies .now;
 }
 
-abbrev gathered : tie.Start → tie.After-gather → Lent
-gathered s c = let l = c .gather .last in record {
-  chains = s .args .chains .now;
+abbrev gathered : tie.Start → tie.After-gather → List ℕ → Lent
+gathered s c names = let l = c .gather .last in record {
+  chains = names;
   residueKeys = l .0;
   residueNames = l .1 .0;
   residueCodes = s .args .residue-codes .now;
@@ -63,87 +67,84 @@ finished-by-requires : tie.Need-finished-by-requires
 finished-by-requires c κs = search needs
 
 same-length : tie.Need-same-length
-same-length c = c .before .before .before .before .before .before .before .before .before .before .before .before .before .before .before .before .before .before .before .before .chains .given
+same-length c = c .before .before .before .before .before .before .before .before .before .before .before .before .before .before .before .before .before .before .residue-keys .given
 
 same-length-2 : tie.Need-same-length-2
-same-length-2 c = c .before .before .before .before .before .before .before .before .before .before .before .before .before .before .before .before .before .before .residue-keys .given
+same-length-2 c = c .before .before .before .before .before .before .before .before .before .before .before .before .before .before .before .before .residue-names .given
 
 same-length-3 : tie.Need-same-length-3
-same-length-3 c = c .before .before .before .before .before .before .before .before .before .before .before .before .before .before .before .before .residue-names .given
+same-length-3 c = c .before .before .before .before .before .before .before .before .before .before .before .before .before .before .residue-codes .given
 
 same-length-4 : tie.Need-same-length-4
-same-length-4 c = c .before .before .before .before .before .before .before .before .before .before .before .before .before .before .residue-codes .given
+same-length-4 c = c .before .before .before .before .before .before .before .before .before .before .before .before .residue-categories .given
 
 same-length-5 : tie.Need-same-length-5
-same-length-5 c = c .before .before .before .before .before .before .before .before .before .before .before .before .residue-categories .given
+same-length-5 c = c .before .before .before .before .before .before .before .before .before .before .residue-positions .given
 
 same-length-6 : tie.Need-same-length-6
-same-length-6 c = c .before .before .before .before .before .before .before .before .before .before .residue-positions .given
+same-length-6 c = c .before .before .before .before .before .before .before .before .atom-keys .given
 
 same-length-7 : tie.Need-same-length-7
-same-length-7 c = c .before .before .before .before .before .before .before .before .atom-keys .given
+same-length-7 c = c .before .before .before .before .before .before .atom-names .given
 
 same-length-8 : tie.Need-same-length-8
-same-length-8 c = c .before .before .before .before .before .before .atom-names .given
+same-length-8 c = c .before .before .before .before .elements .given
 
 same-length-9 : tie.Need-same-length-9
-same-length-9 c = c .before .before .before .before .elements .given
+same-length-9 c = c .before .before .positions .given
 
 same-length-10 : tie.Need-same-length-10
-same-length-10 c = c .before .before .positions .given
-
-same-length-11 : tie.Need-same-length-11
-same-length-11 c = c .before .occupancies .given
+same-length-10 c = c .before .occupancies .given
 
 returns : tie.Need-returns
 returns c =
-    let t = c .before .before .before .before .before .before .before .before .before .before .before .before .before .before .before .before .before .before .before .before .before .before .before .before .before .before .before .before .before .before .before .before .before .before .before .before .before .before .before .before .before .before .before .before .before .before .before in
-    let l = entry t in
-    λ making s p.
-    let end = refused-stays (roomOf l) (recordsIn l) (t .args .standing) _ making (c .before .before .before .before .before .before .before .before .before .before .before .before .before .before .before .before .before .before .before .before .before .before .before .before .before .before .before .before .before .before .before .before .before .before .before .halt .given .1) s in
-    (sym (ap answerOf end), c .before .before .before .before .before .before .before .before .before .before .before .before .before .before .before .before .before .before .before .before .before .clear-records .ensures ∙ ap (clearedFrom l) (c .before .before .before .before .before .before .before .before .before .before .before .before .before .before .before .before .before .before .before .before .before .before .no-records .ensures) ∙ all-cleared l ∙ sym (ap (leftBy l) end))
+    let t = c .before .before .before .before .before .before .before .before .before .before .before .before .before .before .before .before .before .before .before .before .before .before .before .before .before .before .before .before .before .before .before .before .before .before .before .before .before .before .before .before .before .before .before in
+    let k = c .before .before .before .before .before .before .before .before .before .before .before .before .before .before .before .before .before .before .before in
+    λ names making s p.
+    let l = entry t names in
+    let end = refused-stays (roomOf l) (recordsIn l) (t .args .standing) _ making (c .before .before .before .before .before .before .before .before .before .before .before .before .before .before .before .before .before .before .before .before .before .before .before .before .before .before .before .before .before .before .before .before .halt .given .1) s in
+    (sym (ap answerOf end), none-left l (givenBack (k .clear-records .last)) (k .before .no-records .ensures) (k .clear-records .ensures names) ∙ sym (ap (leftBy l) end))
+
+same-length-11 : tie.Need-same-length-11
+same-length-11 c = c .before .before .before .before .before .before .before .before .before .before .before .before .before .before .before .before .before .before .before .residue-keys3 .given ∙ c .before .before .before .before .before .before .before .before .before .before .before .before .before .before .before .before .before .before .before .before .before .before .before .before .before .before .before .before .before .before .before .before .before .before .before .before .before .before .before .before .before .before .before .before .before .before .residue-keys2 .given
 
 same-length-12 : tie.Need-same-length-12
-same-length-12 c = c .before .before .before .before .before .before .before .before .before .before .before .before .before .before .before .before .before .before .before .before .before .chains2 .given
+same-length-12 c = c .before .before .before .before .before .before .before .before .before .before .before .before .before .before .before .before .before .residue-names3 .given ∙ c .before .before .before .before .before .before .before .before .before .before .before .before .before .before .before .before .before .before .before .before .before .before .before .before .before .before .before .before .before .before .before .before .before .before .before .before .before .before .before .before .before .before .before .before .residue-names2 .given
 
 same-length-13 : tie.Need-same-length-13
-same-length-13 c = c .before .before .before .before .before .before .before .before .before .before .before .before .before .before .before .before .before .before .before .residue-keys3 .given ∙ c .before .before .before .before .before .before .before .before .before .before .before .before .before .before .before .before .before .before .before .before .before .before .before .before .before .before .before .before .before .before .before .before .before .before .before .before .before .before .before .before .before .before .before .before .before .before .before .before .before .residue-keys2 .given
+same-length-13 c = c .before .before .before .before .before .before .before .before .before .before .before .before .before .before .before .residue-codes2 .given
 
 same-length-14 : tie.Need-same-length-14
-same-length-14 c = c .before .before .before .before .before .before .before .before .before .before .before .before .before .before .before .before .before .residue-names3 .given ∙ c .before .before .before .before .before .before .before .before .before .before .before .before .before .before .before .before .before .before .before .before .before .before .before .before .before .before .before .before .before .before .before .before .before .before .before .before .before .before .before .before .before .before .before .before .before .before .before .residue-names2 .given
+same-length-14 c = c .before .before .before .before .before .before .before .before .before .before .before .before .before .residue-categories3 .given ∙ c .before .before .before .before .before .before .before .before .before .before .before .before .before .before .before .before .before .before .before .before .before .before .before .before .before .before .before .before .before .before .before .before .before .before .before .before .before .before .before .before .before .before .residue-categories2 .given
 
 same-length-15 : tie.Need-same-length-15
-same-length-15 c = c .before .before .before .before .before .before .before .before .before .before .before .before .before .before .before .residue-codes2 .given
+same-length-15 c = c .before .before .before .before .before .before .before .before .before .before .before .residue-positions2 .given
 
 same-length-16 : tie.Need-same-length-16
-same-length-16 c = c .before .before .before .before .before .before .before .before .before .before .before .before .before .residue-categories3 .given ∙ c .before .before .before .before .before .before .before .before .before .before .before .before .before .before .before .before .before .before .before .before .before .before .before .before .before .before .before .before .before .before .before .before .before .before .before .before .before .before .before .before .before .before .before .before .before .residue-categories2 .given
+same-length-16 c = c .before .before .before .before .before .before .before .before .before .atom-keys3 .given ∙ c .before .before .before .before .before .before .before .before .before .before .before .before .before .before .before .before .before .before .before .before .before .before .before .before .before .before .before .before .before .before .before .before .before .before .before .before .before .before .before .before .atom-keys2 .given
 
 same-length-17 : tie.Need-same-length-17
-same-length-17 c = c .before .before .before .before .before .before .before .before .before .before .before .residue-positions2 .given
+same-length-17 c = c .before .before .before .before .before .before .before .atom-names3 .given ∙ c .before .before .before .before .before .before .before .before .before .before .before .before .before .before .before .before .before .before .before .before .before .before .before .before .before .before .before .before .before .before .before .before .before .before .before .before .before .before .atom-names2 .given
 
 same-length-18 : tie.Need-same-length-18
-same-length-18 c = c .before .before .before .before .before .before .before .before .before .atom-keys3 .given ∙ c .before .before .before .before .before .before .before .before .before .before .before .before .before .before .before .before .before .before .before .before .before .before .before .before .before .before .before .before .before .before .before .before .before .before .before .before .before .before .before .before .before .before .before .atom-keys2 .given
+same-length-18 c = c .before .before .before .before .before .elements3 .given ∙ c .before .before .before .before .before .before .before .before .before .before .before .before .before .before .before .before .before .before .before .before .before .before .before .before .before .before .before .before .before .before .before .before .before .before .before .before .elements2 .given
 
 same-length-19 : tie.Need-same-length-19
-same-length-19 c = c .before .before .before .before .before .before .before .atom-names3 .given ∙ c .before .before .before .before .before .before .before .before .before .before .before .before .before .before .before .before .before .before .before .before .before .before .before .before .before .before .before .before .before .before .before .before .before .before .before .before .before .before .before .before .before .atom-names2 .given
+same-length-19 c = c .before .before .before .positions3 .given ∙ c .before .before .before .before .before .before .before .before .before .before .before .before .before .before .before .before .before .before .before .before .before .before .before .before .before .before .before .before .before .before .before .before .before .before .positions2 .given
 
 same-length-20 : tie.Need-same-length-20
-same-length-20 c = c .before .before .before .before .before .elements3 .given ∙ c .before .before .before .before .before .before .before .before .before .before .before .before .before .before .before .before .before .before .before .before .before .before .before .before .before .before .before .before .before .before .before .before .before .before .before .before .before .before .before .elements2 .given
-
-same-length-21 : tie.Need-same-length-21
-same-length-21 c = c .before .before .before .positions3 .given ∙ c .before .before .before .before .before .before .before .before .before .before .before .before .before .before .before .before .before .before .before .before .before .before .before .before .before .before .before .before .before .before .before .before .before .before .before .before .before .positions2 .given
-
-same-length-22 : tie.Need-same-length-22
-same-length-22 c = c .before .before .occupancies3 .given ∙ c .before .before .before .before .before .before .before .before .before .before .before .before .before .before .before .before .before .before .before .before .before .before .before .before .before .before .before .before .before .before .before .before .before .before .before .before .occupancies2 .given
+same-length-20 c = c .before .before .occupancies3 .given ∙ c .before .before .before .before .before .before .before .before .before .before .before .before .before .before .before .before .before .before .before .before .before .before .before .before .before .before .before .before .before .before .before .before .before .occupancies2 .given
 
 returns-2 : tie.Need-returns-2
 returns-2 c =
-    let t = c .before .before .before .before .before .before .before .before .before .before .before .before .before .before .before .before .before .before .before .before .before .before .before .before .before .before .before .before .before .before .before .before .before .before .before .before .before .before .before .before .before .before .before .before .before .before .before .before .before .before .before .before .before .before .before .before .before .before .before .before .before .before .before .before .before .before .before .before .before .before .before .before in
-    let g = c .before .before .before .before .before .before .before .before .before .before .before .before .before .before .before .before .before .before .before .before .before .before .before .before .before .before .before .before .before .before .before .before .before .before .before .before .before .before .before .before .before .before .before .before .before .before .before .before .before .before in
-    let f = c .before .before .before .before .before .before .before .before .before .before .before .before .before .before .before .before .before .before .before .before .before .before .finish-model in
-    λ making s p.
-    let ends = finished-ends (entry t) (gathered t g) _ (t .args .standing) (f .result) (g .gather .ensures (t .args .chains .now)) refl refl (f .ensures) (c .before .before .before .before .before .before .before .before .before .before .before .before .before .before .before .before .before .before .before .before .before .before .before .before .before .before .before .before .before .before .before .before .before .before .before .before .before .before .before .before .before .before .before .before .before .before .before .before .before .before .before .before .before .before .before .before .before .before .before .before .enum-told .given .1) making s p in
-    (c .finished-by .ensures ∙ ends .0, ends .1)
+    let t = c .before .before .before .before .before .before .before .before .before .before .before .before .before .before .before .before .before .before .before .before .before .before .before .before .before .before .before .before .before .before .before .before .before .before .before .before .before .before .before .before .before .before .before .before .before .before .before .before .before .before .before .before .before .before .before .before .before .before .before .before .before .before .before .before .before .before .before .before in
+    let g = c .before .before .before .before .before .before .before .before .before .before .before .before .before .before .before .before .before .before .before .before .before .before .before .before .before .before .before .before .before .before .before .before .before .before .before .before .before .before .before .before .before .before .before .before .before .before .before in
+    let f = c .before .before .before .before .before .before .before .before .before .before .before .before .before .before .before .before .before .before .before .before .finish-model in
+    λ names making s p.
+    let ends =
+    finished-ends (entry t names) (gathered t g names) _ (t .args .standing) (f .result) (g .gather .ensures names) refl refl (f .ensures names)
+    (c .before .before .before .before .before .before .before .before .before .before .before .before .before .before .before .before .before .before .before .before .before .before .before .before .before .before .before .before .before .before .before .before .before .before .before .before .before .before .before .before .before .before .before .before .before .before .before .before .before .before .before .before .before .before .before .before .before .enum-told .given .1) making s p in
+    (c .finished-by .ensures ∙ ends .0, ap (λ (n : ℕ). givenBack (f .last) (cleared 0 n names)) (finished-leaves (f .result) _ (c .finished-by .ensures)) ∙ ends .1)
 
 pub close-spec : {M : Type 1} → statement M
 close-spec =
@@ -166,8 +167,8 @@ close-spec =
     same-length-8
     same-length-9
     same-length-10
-    same-length-11
     returns
+    same-length-11
     same-length-12
     same-length-13
     same-length-14
@@ -177,6 +178,4 @@ close-spec =
     same-length-18
     same-length-19
     same-length-20
-    same-length-21
-    same-length-22
     returns-2)

@@ -1,8 +1,8 @@
 -- What the writer answers is served; on its refusal all records are cleared.
 use mathlib.Core.Path.{refl, _∙_, ap}
 use Rattle.model.specs.Lent.{Lent, lentOf}
-use Rattle.finishing.specs.Clearing.{clearedFrom}
-use Rattle.finishing.proofs.ClearingLaws.{all-cleared}
+use Rattle.finishing.proofs.ClearingLaws.{none-left}
+use Rattle.finishing.proofs.GivenBack.{givenBack}
 use Rattle.service.proofs.ServingLaws.{put-out, put-nothing}
 use borrow.Author.Needs.{needs}
 use Rattle.service.proofs.serving.write_out.Statement.{statement}
@@ -35,6 +35,9 @@ enum-known-written c = search needs
 
 enum-known-written-2 : tie.Need-enum-known-written-2
 enum-known-written-2 c = search needs
+
+clear-u64-from-requires : tie.Need-clear-u64-from-requires
+clear-u64-from-requires c κs = search needs
 
 no-records-requires : tie.Need-no-records-requires
 no-records-requires c κs = search needs
@@ -86,10 +89,10 @@ returns c =
     put-out (entry t) (t .args .counts) (t .args .out .now) _ (n .ensures) _ _ (w .ensures) _ (c .before .written .given .1)
 
 same-length-13 : tie.Need-same-length-13
-same-length-13 c = c .before .before .before .before .before .before .before .before .before .before .before .before .before .before .before .before .before .before .before .before .before .before .before .before .before .before .before .before .before .before .before .before .before .before .before .before .before .before .out .given
+same-length-13 c = c .before .before .before .before .before .before .before .before .before .before .before .before .before .before .before .before .before .before .before .before .before .before .before .before .before .before .before .before .before .before .before .before .before .before .before .before .before .before .before .out .given
 
 same-length-14 : tie.Need-same-length-14
-same-length-14 c = c .before .before .before .before .before .before .before .before .before .before .before .before .before .before .before .before .before .before .before .before .chains .given
+same-length-14 c = c .before .before .before .before .before .before .before .before .before .before .before .before .before .before .before .before .before .before .before .before .before .before .before .before .before .before .before .before .before .before .before .before .chains .given
 
 same-length-15 : tie.Need-same-length-15
 same-length-15 c = c .before .before .before .before .before .before .before .before .before .before .before .before .before .before .before .before .before .before .residue-keys .given
@@ -123,11 +126,13 @@ same-length-24 c = c .before .occupancies .given
 
 returns-2 : tie.Need-returns-2
 returns-2 c =
-    let t = c .before .before .before .before .before .before .before .before .before .before .before .before .before .before .before .before .before .before .before .before .before .before .before .before .before .before .before .before .before .before .before .before .before .before .before .before .before .before .before .before .before .before .before .before .before .before .before .before .before .before .before .before .before .before .before .before .before .before .before .before .before .before .before .before in
-    let n = c .before .before .before .before .before .before .before .before .before .before .before .before .before .before .before .before .before .before .before .before .before .before .before .before .before .before .before .before .before .before .before .before .before .before .before .before .before .before .before .before .before .sizes-of in
-    let w = c .before .before .before .before .before .before .before .before .before .before .before .before .before .before .before .before .before .before .before .before .before .before .before .before .before .before .before .before .before .before .before .before .before .before .before .before .before .before .before .write-by-names in
-    let cleared = c .before .before .before .before .before .before .before .before .before .before .before .before .before .before .before .before .before .before .before .before .before .clear-records in
-    put-nothing (entry t) (t .args .counts) (t .args .out .now) _ (n .ensures) _ _ (w .ensures) _ _ (c .before .before .before .before .before .before .before .before .before .before .before .before .before .before .before .before .before .before .before .before .before .before .before .before .before .before .before .before .before .before .before .before .before .before .before .written2 .given .1) (cleared .ensures ∙ ap (clearedFrom (entry t)) (c .before .before .before .before .before .before .before .before .before .before .before .before .before .before .before .before .before .before .before .before .before .before .no-records .ensures) ∙ all-cleared (entry t))
+    let t = c .before .before .before .before .before .before .before .before .before .before .before .before .before .before .before .before .before .before .before .before .before .before .before .before .before .before .before .before .before .before .before .before .before .before .before .before .before .before .before .before .before .before .before .before .before .before .before .before .before .before .before .before .before .before .before .before .before .before .before .before .before .before .before .before .before in
+    let n = c .before .before .before .before .before .before .before .before .before .before .before .before .before .before .before .before .before .before .before .before .before .before .before .before .before .before .before .before .before .before .before .before .before .before .before .before .before .before .before .before .before .before .sizes-of in
+    let w = c .before .before .before .before .before .before .before .before .before .before .before .before .before .before .before .before .before .before .before .before .before .before .before .before .before .before .before .before .before .before .before .before .before .before .before .before .before .before .before .before .write-by-names in
+    let k = c .before .before .before .before .before .before .before .before .before .before .before .before .before .before .before .before .before .before .before in
+    put-nothing (entry t) (t .args .counts) (t .args .out .now) _ (n .ensures) _ _ (w .ensures) _ _ (c .before .before .before .before .before .before .before .before .before .before .before .before .before .before .before .before .before .before .before .before .before .before .before .before .before .before .before .before .before .before .before .before .before .before .before .before .written2 .given .1)
+    (ap (givenBack (k .clear-records .last)) (c .before .before .before .before .before .before .before .before .before .before .before .before .before .before .before .before .before .before .before .before .before .before .before .before .before .before .before .before .before .before .before .before .before .clear-u64-from .ensures)
+    ∙ none-left (entry t) (givenBack (k .clear-records .last)) (k .before .no-records .ensures) (k .clear-records .ensures (t .args .chains .now)))
 
 pub write-out-spec : {M : Type 1} → statement M
 write-out-spec =
@@ -137,6 +142,7 @@ write-out-spec =
     write-by-names-requires
     enum-known-written
     enum-known-written-2
+    clear-u64-from-requires
     no-records-requires
     clear-records-requires
     same-length

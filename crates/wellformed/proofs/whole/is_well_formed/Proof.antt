@@ -1,5 +1,5 @@
 -- Where the counts fit, the rules for the slices make the definition; and where they do not, the model is not well formed.
-use mathlib.Core.Path.{_≡_, sym, ap, _∙_}
+use mathlib.Core.Path.{_≡_, refl, sym, ap, _∙_}
 use mathlib.Core.Bool.{true}
 use borrow.Author.Tests.{not-true, not-false}
 use Rattle.model.specs.Lent.{Lent, lentOf}
@@ -32,7 +32,7 @@ counted : (k : tie.After-is-within) → k .is-within .result ≡ countsFit (lent
 unfolding countsFit
 counted k =
     k .is-within .ensures
-    ∙ ap (within (start k .args .counts)) (k .before .room-of .ensures)
+    ∙ ap (within (start k .args .counts)) (k .before .room-of .ensures (start k .args .chains .now) refl)
 
 -- where the counts fit
 fit : (p : tie.Else1) → let s = start (p .before) in countsFit (lent s) (s .args .counts) ≡ true
