@@ -1,11 +1,12 @@
--- A look at the entries next to the gap, from there on or back, narrows where an entry belongs to one spot; and a spot in one of two lists is one in both
--- together where the first list ends before it, or does not.
+-- A look at an entry, next to the gap or halfway, narrows where another belongs to one spot; and a spot in one of two lists is one in both together where
+-- the first list ends before it, or does not.
 use Prim.{tt, Dec, yes, no}
 use mathlib.Core.Path.{_≡_, refl, sym, ap, _∙_, subst}
 use mathlib.Core.List.{List, [], _∷_, _++_}
 use mathlib.Core.Bool.{Bool, true, false, false≢true}
 use mathlib.Core.Logic.{_⊎_, inl, inr}
 use Prim.Native.Nat.{ℕ, suc, _+_, _-_, _≤_, _<_}
+use native.Mathlib.Nat.{sub-zero}
 use native.Mathlib.Decide.{decLt}
 use native.Mathlib.Omega.{arith}
 use lib.ListN.{length, take, drop, getD, length-append, length-drop, List·getD-append}
@@ -13,13 +14,20 @@ use lib.Seq.{getD-append-add, take-all}
 use Rattle.field_slices.specs.declared.places.Place.{Place}
 use Rattle.field_slices.specs.declared.places.Place.the-variants.{At, Before}
 use Rattle.gapped_slices.specs.declared.spots.Spot.{Spot}
-use Rattle.field_slices.specs.Places.{Ascending, placeIn, Found}
+use Rattle.field_slices.specs.Places.{pairs, Ascending, placeIn, Found}
 use Rattle.gapped_slices.specs.Spots.{spotOf, Spotted}
 use Rattle.field_slices.proofs.OrderLaws.{Order}
+use Rattle.field_slices.proofs.PairLaws.{take-pairs}
 use Rattle.field_slices.proofs.PlaceLaws.{FirstBelow, place-before, place-at, Says, place-says}
 use Rattle.field_slices.proofs.SearchLaws.{Narrowed, narrowed-up, narrowed-down, found-at, found-before}
 
--- all that is behind an index
+-- all that is before an index, and all that is behind it, as they are lent
+pub first-of : {A : Type 0} (l : List A) (k : ℕ) → take k l ≡ take (k - 0) l
+first-of l k = ap (λ (n : ℕ). take n l) (sym (sub-zero k))
+
+pub first-pairs-of : (keys names : List ℕ) (k : ℕ) → take k (pairs keys names) ≡ pairs (take (k - 0) keys) (take (k - 0) names)
+first-pairs-of keys names k = take-pairs k keys names ∙ λ p. pairs (first-of keys k p) (first-of names k p)
+
 pub rest-of : {A : Type 0} (l : List A) (k : ℕ) → take (length l - k) (drop k l) ≡ drop k l
 rest-of l k = take-all (length l - k) (drop k l) (omega (arith, length-drop k l))
 
@@ -54,8 +62,11 @@ module _ {A : Type 0} {less : A → A → Bool} where
   pub spotted-in : {l m : List A} {c : A} {s : Spot} → l ≡ m → Spotted less l c s → Spotted less m c s
   spotted-in {l} {m} {c} {s} e f = subst (λ (k : List A). Spotted less k c s) e f
 
+  pub narrowed-in : {o : Order less} {d c : A} {l m : List A} {n k lo hi : ℕ} → l ≡ m → n ≡ k → Narrowed o d c l n lo hi → Narrowed o d c m k lo hi
+  narrowed-in {o} {d} {c} {l} {m} {n} {k} {lo} {hi} e f w = subst (λ (p : List A × ℕ). Narrowed o d c (p .0) (p .1) lo hi) (λ i. (e i, f i)) w
+
   module _ (o : Order less) (d c : A) where
-    -- ---- looks, back from the end and on from the start
+    -- ---- looks, back from the end, on from the start, and anywhere between
     module _ {l : List A} {n : ℕ} where
       pub spot-behind-last : {hi : ℕ} {x : A} → Narrowed o d c l n 0 hi → 0 < hi → getD l (hi - 1) d ≡ x → less x c ≡ true → Spotted less l c (record { front = hi; new = true })
       spot-behind-last w h e k = spot-new (found-before o d (narrowed-up o d w (omega arith) e k) (omega arith)) (omega arith)
@@ -67,9 +78,9 @@ module _ {A : Type 0} {less : A → A → Bool} where
       pub spot-before-next : {lo : ℕ} {x : A} → Narrowed o d c l n lo n → lo < n → getD l lo d ≡ x → less c x ≡ true → Spotted less l c (record { front = lo; new = true })
       spot-before-next w h e k = spot-new (found-before o d (narrowed-down o d w (omega arith) h e k) (omega arith)) refl
 
-      pub spot-next : {lo : ℕ} {x : A} → Narrowed o d c l n lo n → lo < n → getD l lo d ≡ x → less x c ≡ false → less c x ≡ false
-          → Spotted less l c (record { front = lo + 1; new = false })
-      spot-next w h e p q = spot-there (found-at o d w h e p q) (omega arith)
+      pub spot-at : {lo hi mid : ℕ} {x : A} → Narrowed o d c l n lo hi → mid < hi → getD l mid d ≡ x → less x c ≡ false → less c x ≡ false
+          → Spotted less l c (record { front = mid + 1; new = false })
+      spot-at w h e p q = spot-there (found-at o d w h e p q) (omega arith)
 
       pub spot-no-more : {lo hi : ℕ} → Narrowed o d c l n lo hi → hi ≤ lo → Spotted less l c (record { front = lo; new = true })
       spot-no-more w h = spot-new (found-before o d w h) refl

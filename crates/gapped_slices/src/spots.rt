@@ -1,12 +1,15 @@
 // Where an entry belongs among those of slices with a gap: the gap is moved there before the entry is put in. The entries next to the
-// gap are looked at first, so that an entry which comes in order costs one look.
+// gap are looked at first, so that an entry which comes in order costs one look on each side.
 ghost use mathlib.Core.Path.{_≡_};
 ghost use Prim.Native.Nat.{_+_, _≤_};
 ghost use lib.Dec.{leb, ltb};
 ghost use lib.ListN.{length, take};
 ghost use Rattle.gapped_slices.specs.Gaps.{closed};
 ghost use Rattle.field_slices.specs.Places.{pairs, below};
+ghost use Rattle.field_slices.proofs.OrderLaws.{numbers, by-both};
+ghost use Rattle.field_slices.proofs.SearchLaws.{Narrowed};
 ghost use Rattle.gapped_slices.specs.Spots.{Spotted};
+use field_slices::smaller;
 
 pub struct Spot {
     // So many entries come before the gap.
@@ -14,6 +17,10 @@ pub struct Spot {
     // Whether the entry is new; else it is the last of those.
     pub new: bool,
 }
+
+// So many entries on a side of the gap are looked at one by one, since most entries belong near it. Those further off are halved: else
+// rows that jump from end to end would have all entries looked at for each row.
+const STEPS: usize = 8;
 
 // Whether a slice has so many entries before its gap and behind it.
 pub(crate) fn is_within(size: usize, front: usize, behind: usize) -> bool
@@ -27,13 +34,43 @@ pub(crate) fn is_within(size: usize, front: usize, behind: usize) -> bool
 
 // ---- by key
 
-// Among those before the gap, from the last one back.
+// By halves among the entries from `from` to `to`, where those before them are known to be less, and those behind them greater.
+fn halves_key(keys: &[u64], from: usize, to: usize, key: u64) -> Spot
+    requires { ⌜ Narrowed numbers 0 key (now keys) (length (now keys)) from to ⌝ }
+    ensures { λ r. ⌜ Spotted ltb (now (keys .entry)) key r ⌝ }
+{
+    let mut lo = from;
+    let mut hi = to;
+    while lo < hi {
+        let mid = lo + (hi - lo) / 2;
+        let halfway = keys[mid];
+        if halfway < key {
+            lo = mid + 1;
+        } else {
+            if key < halfway {
+                hi = mid;
+            } else {
+                return Spot {
+                    front: mid + 1,
+                    new: false,
+                };
+            }
+        }
+    }
+    Spot {
+        front: lo,
+        new: true,
+    }
+}
+
+// Among those before the gap, from the last one back, and by halves among those that this leaves.
 fn spot_before_key(keys: &[u64], front: usize, key: u64) -> Spot
     requires { ⌜ front ≤ length (now keys) ⌝ }
     ensures { λ r. ⌜ Spotted ltb (take front (now (keys .entry))) key r ⌝ }
 {
+    let stop = front - smaller(STEPS, front);
     let mut i = front;
-    while 0 < i {
+    while stop < i {
         let last = keys[i - 1];
         if last < key {
             return Spot {
@@ -49,18 +86,16 @@ fn spot_before_key(keys: &[u64], front: usize, key: u64) -> Spot
         }
         i -= 1;
     }
-    Spot {
-        front: 0,
-        new: true,
-    }
+    halves_key(&keys[0..front], 0, i, key)
 }
 
-// Among those behind the gap, from the first one on.
+// Among those behind the gap, from the first one on, and by halves among those that this leaves.
 fn spot_behind_key(keys: &[u64], key: u64) -> Spot
     ensures { λ r. ⌜ Spotted ltb (now (keys .entry)) key r ⌝ }
 {
+    let stop = smaller(STEPS, keys.len());
     let mut i = 0;
-    while i < keys.len() {
+    while i < stop {
         let next = keys[i];
         if key < next {
             return Spot {
@@ -76,10 +111,7 @@ fn spot_behind_key(keys: &[u64], key: u64) -> Spot
             };
         }
     }
-    Spot {
-        front: i,
-        new: true,
-    }
+    halves_key(keys, i, keys.len(), key)
 }
 
 pub fn spot_of_key(keys: &[u64], front: usize, behind: usize, key: u64) -> Spot
@@ -121,12 +153,42 @@ fn is_below(k: u64, m: u64, key: u64, name: u64) -> bool
     m < name
 }
 
+fn halves(keys: &[u64], names: &[u64], from: usize, to: usize, key: u64, name: u64) -> Spot
+    requires { ⌜ (length (now keys) ≤ length (now names)) × Narrowed by-both (0, 0) (key, name) (pairs (now keys) (now names)) (length (now keys)) from to ⌝ }
+    ensures { λ r. ⌜ Spotted below (pairs (now (keys .entry)) (now (names .entry))) (key, name) r ⌝ }
+{
+    let mut lo = from;
+    let mut hi = to;
+    while lo < hi {
+        let mid = lo + (hi - lo) / 2;
+        let mid_key = keys[mid];
+        let mid_name = names[mid];
+        if is_below(mid_key, mid_name, key, name) {
+            lo = mid + 1;
+        } else {
+            if is_below(key, name, mid_key, mid_name) {
+                hi = mid;
+            } else {
+                return Spot {
+                    front: mid + 1,
+                    new: false,
+                };
+            }
+        }
+    }
+    Spot {
+        front: lo,
+        new: true,
+    }
+}
+
 fn spot_before(keys: &[u64], names: &[u64], front: usize, key: u64, name: u64) -> Spot
     requires { ⌜ (front ≤ length (now keys)) × (front ≤ length (now names)) ⌝ }
     ensures { λ r. ⌜ Spotted below (take front (pairs (now (keys .entry)) (now (names .entry)))) (key, name) r ⌝ }
 {
+    let stop = front - smaller(STEPS, front);
     let mut i = front;
-    while 0 < i {
+    while stop < i {
         let k = keys[i - 1];
         let m = names[i - 1];
         if is_below(k, m, key, name) {
@@ -143,18 +205,16 @@ fn spot_before(keys: &[u64], names: &[u64], front: usize, key: u64, name: u64) -
         }
         i -= 1;
     }
-    Spot {
-        front: 0,
-        new: true,
-    }
+    halves(&keys[0..front], &names[0..front], 0, i, key, name)
 }
 
 fn spot_behind(keys: &[u64], names: &[u64], key: u64, name: u64) -> Spot
     requires { ⌜ length (now keys) ≤ length (now names) ⌝ }
     ensures { λ r. ⌜ Spotted below (pairs (now (keys .entry)) (now (names .entry))) (key, name) r ⌝ }
 {
+    let stop = smaller(STEPS, keys.len());
     let mut i = 0;
-    while i < keys.len() {
+    while i < stop {
         let k = keys[i];
         let m = names[i];
         if is_below(key, name, k, m) {
@@ -171,10 +231,7 @@ fn spot_behind(keys: &[u64], names: &[u64], key: u64, name: u64) -> Spot
             };
         }
     }
-    Spot {
-        front: i,
-        new: true,
-    }
+    halves(keys, names, i, keys.len(), key, name)
 }
 
 // Each slice has its own end.

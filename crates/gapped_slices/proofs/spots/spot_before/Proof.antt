@@ -2,30 +2,36 @@
 use mathlib.Core.Path.{_≡_, sym, _∙_}
 use Prim.Native.Nat.{_-_}
 use native.Mathlib.Omega.{arith}
-use lib.ListN.{take, getD}
+use lib.ListN.{take, getD, length-take}
 use borrow.Author.Tests.{not-true, not-false}
 use Rattle.field_slices.specs.Places.{pairs}
 use Rattle.field_slices.proofs.OrderLaws.{by-both}
 use Rattle.field_slices.proofs.PairLaws.{length-first-pairs, first-pairs-at}
 use Rattle.field_slices.proofs.SearchLaws.{Narrowed, narrowed-starts, narrowed-down}
-use Rattle.gapped_slices.proofs.SpotLaws.{spot-behind-last, spot-last, spot-no-more}
+use Rattle.gapped_slices.proofs.SpotLaws.{first-pairs-of, spotted-in, narrowed-in, spot-behind-last, spot-last}
 use borrow.Author.Needs.{needs}
 use Rattle.gapped_slices.proofs.spots.spot_before.Statement.{statement}
 use Rattle.gapped_slices.proofs.spots.spot_before.Tie as tie
 
 abbrev Inv-loop : tie.InvT-loop
-Inv-loop keys names front key name i₀ i = Narrowed by-both (0, 0) (key, name) (take front (pairs keys names)) front 0 i
+Inv-loop keys names front key name stop i₀ i = Narrowed by-both (0, 0) (key, name) (take front (pairs keys names)) front 0 i
 
 abbrev μ-loop : tie.MeasureT-loop
-μ-loop keys names front key name i₀ i = i
+μ-loop keys names front key name stop i₀ i = i
 
 -- the last entry is the two that the code reads
-entry : (t : tie.In-loop Inv-loop μ-loop) → let a = t .before .before .before .before .args in
+entry : (t : tie.In-loop Inv-loop μ-loop) → let a = t .before .before .before .before .before .args in
     getD (take (a .front) (pairs (a .keys .now) (a .names .now))) (t .before .loop .i - 1) (0, 0) ≡ (getD (a .keys .now) (t .before .loop .i - 1) 0, getD (a .names .now) (t .before .loop .i - 1) 0)
-entry t = let a = t .before .before .before .before .args in first-pairs-at (a .keys .now) (a .names .now) (a .front) (t .before .loop .i - 1) (omega arith) (omega arith) (omega arith)
+entry t = let a = t .before .before .before .before .before .args in first-pairs-at (a .keys .now) (a .names .now) (a .front) (t .before .loop .i - 1) (omega arith) (omega arith) (omega arith)
+
+smaller-requires : tie.Need-smaller-requires Inv-loop μ-loop
+smaller-requires c κs = search needs
+
+sub-stop : tie.Need-sub-stop Inv-loop μ-loop
+sub-stop c = search needs
 
 loop-holds : tie.Need-loop-holds Inv-loop μ-loop
-loop-holds c = let a = c .before .before .args in narrowed-starts by-both (0, 0) (omega (arith, length-first-pairs (a .keys .now) (a .names .now) (a .front)))
+loop-holds c = let a = c .before .before .before .args in narrowed-starts by-both (0, 0) (omega (arith, length-first-pairs (a .keys .now) (a .names .now) (a .front)))
 
 sub-k : tie.Need-sub-k Inv-loop μ-loop
 sub-k c = search needs
@@ -66,8 +72,34 @@ loop-less c = search needs
 loop-again : tie.Need-loop-again Inv-loop μ-loop
 loop-again c = narrowed-down by-both (0, 0) (c .before .before .before .before .before .before .before .loop .inv) (omega arith) (omega arith) (entry (c .before .before .before .before .before .before)) (sym (c .before .is-below2 .ensures) ∙ not-false _ (c .if2 .left))
 
+sub-halves : tie.Need-sub-halves Inv-loop μ-loop
+sub-halves c = search needs
+
+part-halves-start : tie.Need-part-halves-start Inv-loop μ-loop
+part-halves-start c = search needs
+
+part-halves-end : tie.Need-part-halves-end Inv-loop μ-loop
+part-halves-end c = search needs
+
+sub-halves-2 : tie.Need-sub-halves-2 Inv-loop μ-loop
+sub-halves-2 c = search needs
+
+part-halves-start-2 : tie.Need-part-halves-start-2 Inv-loop μ-loop
+part-halves-start-2 c = search needs
+
+part-halves-end-2 : tie.Need-part-halves-end-2 Inv-loop μ-loop
+part-halves-end-2 c = search needs
+
+halves-requires : tie.Need-halves-requires Inv-loop μ-loop
+halves-requires c κs =
+    let a = c .before .before .before .before .before .before .before .args in
+    let h = length-take (a .front - 0) (a .keys .now) in (
+      omega (arith, h, length-take (a .front - 0) (a .names .now)),
+      narrowed-in (first-pairs-of (a .keys .now) (a .names .now) (a .front)) (omega (arith, h)) (c .before .before .before .loop .inv),
+    )
+
 returns-3 : tie.Need-returns-3 Inv-loop μ-loop
-returns-3 c = spot-no-more by-both (0, 0) _ (c .before .loop .inv) (omega arith)
+returns-3 c = let a = c .before .before .before .before .before .before .before .before .args in spotted-in (sym (first-pairs-of (a .keys .now) (a .names .now) (a .front))) (c .halves .ensures)
 
 pub spot-before-spec : {M : Type 1} → statement M
 spot-before-spec =
@@ -75,6 +107,8 @@ spot-before-spec =
     (tie.spec
     Inv-loop
     μ-loop
+    smaller-requires
+    sub-stop
     loop-holds
     sub-k
     mul-k
@@ -89,4 +123,11 @@ spot-before-spec =
     sub-i
     loop-less
     loop-again
+    sub-halves
+    part-halves-start
+    part-halves-end
+    sub-halves-2
+    part-halves-start-2
+    part-halves-end-2
+    halves-requires
     returns-3)
