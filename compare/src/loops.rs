@@ -14,6 +14,17 @@ pub fn of_the_archive() -> Vec<String> {
     atom_items(names)
 }
 
+/// All that a row is asked for, once.
+pub fn few() -> Vec<String> {
+    let items = ITEMS.iter().filter(|item| !item.contains(".label_"));
+    items.map(|item| item.to_string()).collect()
+}
+
+/// The seven columns without which no row is read.
+pub fn fewest() -> Vec<String> {
+    atom_items("auth_atom_id auth_comp_id auth_asym_id auth_seq_id Cartn_x Cartn_y Cartn_z")
+}
+
 /// The items of the loop of atoms that have these names.
 pub fn atom_items(names: &str) -> Vec<String> {
     let names = names.split_whitespace();
@@ -35,6 +46,10 @@ impl Loop {
 
     pub fn with_headers(random: &mut Random, habits: &Habits, headers: Vec<String>) -> Self {
         let sites = sites::sites(random, habits);
+        Self::of_sites(random, &sites, headers)
+    }
+
+    pub fn of_sites(random: &mut Random, sites: &[Site], headers: Vec<String>) -> Self {
         let mut row = |site: &Site| {
             let cells = headers
                 .iter()
@@ -52,6 +67,11 @@ impl Loop {
         columns
             .filter(|&column| asked(&self.headers[column]))
             .collect()
+    }
+
+    /// The line of the first row.
+    pub fn first_line(&self) -> usize {
+        self.headers.len() + 2
     }
 
     pub fn lines(&self, random: &mut Random) -> Vec<String> {
@@ -73,10 +93,9 @@ impl Loop {
 
 /// Complete columns: those of the archive in their order, or some of them in another, or few.
 pub fn headers(random: &mut Random) -> Vec<String> {
-    let few = ITEMS.iter().filter(|item| !item.contains(".label_"));
     match random.below(4) {
         0 => of_the_archive(),
-        1 => few.map(|item| item.to_string()).collect(),
+        1 => few(),
         _ => {
             let mut headers = of_the_archive();
             for name in ["atom_id", "comp_id", "asym_id", "seq_id"] {

@@ -24,6 +24,12 @@ impl Room {
         residues: 512,
         atoms: 1_024,
     };
+    /// More than the small texts need, and little to look through after each of them.
+    pub const AMPLE: Self = Self {
+        chains: 40,
+        residues: 120,
+        atoms: 200,
+    };
 
     /// What the records take: a name to a chain; a key, a name and three codes to a residue; a key, a
     /// name, a code and four numbers to an atom.

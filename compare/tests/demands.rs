@@ -9,11 +9,6 @@ use compare::tally::Tally;
 use compare::texts::Text;
 use compare::{cifs, corpus, orders, writings};
 
-const AMPLE: Room = Room {
-    chains: 40,
-    residues: 120,
-    atoms: 200,
-};
 /// How many small texts are taken, of which enough are read and can be written.
 const SMALL: usize = 60_000;
 /// The fewest cases of each kind.
@@ -71,7 +66,7 @@ fn compare_orders(
 fn rows_in_another_order_give_the_same() {
     let mut tally = Tally::default();
     let mut random = Random::new(71);
-    let mut records = Records::new(AMPLE);
+    let mut records = Records::new(Room::AMPLE);
     for number in 0..SMALL {
         let what = format!("text {number}");
         compare_orders(
@@ -140,7 +135,7 @@ fn compare_trip(tally: &mut Tally, what: &str, text: &[u8], records: &mut Record
 fn what_is_written_is_read_again() {
     let mut tally = Tally::default();
     let mut out = vec![0; LONGEST];
-    let mut records = Records::new(AMPLE);
+    let mut records = Records::new(Room::AMPLE);
     for number in 0..SMALL {
         let what = format!("text {number}");
         compare_trip(

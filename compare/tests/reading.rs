@@ -1,165 +1,28 @@
 //! Whole texts are read as the published Rust reads them, or refused where it refuses them or where
 //! a limit is passed that it lacks.
-use compare::outcomes::{Counts, Outcome, Reason, Refusal};
+use compare::judging::Tallies;
+use compare::outcomes::Outcome;
 use compare::random::Random;
-use compare::readings::{self, LONGEST_TEXT, Reading};
+use compare::readings::LONGEST_TEXT;
 use compare::records::{Field, Records, Room};
-use compare::structures::Model;
-use compare::tally::Tally;
 use compare::texts::{self, Text};
-use compare::{answers, cifs, corpus, loops, probe};
+use compare::{cifs, corpus, loops};
 
-/// More than the small texts need, and little to look through after each of them.
-const AMPLE: Room = Room {
-    chains: 40,
-    residues: 120,
-    atoms: 200,
-};
 /// How often each file of the corpus is damaged.
 const TIMES_DAMAGED: usize = 10;
 /// One of how many small texts is read with each slice as the shortest: of every family some.
 const STEP: usize = 53;
 
-/// The columns of the rows that are made here.
-const COLUMNS: &str = "auth_atom_id auth_comp_id auth_asym_id auth_seq_id Cartn_x Cartn_y Cartn_z";
-
-/// What was compared, by what became of it.
-#[derive(Default)]
-struct Tallies {
-    read: Tally,
-    refused: [Tally; Reason::ALL.len()],
-}
-
-impl Tallies {
-    /// Reads the text into dirty records of that room.
-    fn compare(&mut self, what: &str, text: &[u8], records: &mut Records, room: Room) -> Outcome {
-        records.soil();
-        let ours = probe::read(text, records);
-        let judged = judged(text, ours, records, &readings::read(text, room));
-        let tally = match ours {
-            Outcome::Read(_) => &mut self.read,
-            Outcome::Refused(refusal) => &mut self.refused[refusal.reason as usize - 1],
-        };
-        tally.compare(judged.is_ok(), || {
-            let shown = &text[..text.len().min(4000)];
-            let difference = judged.unwrap_err();
-            format!("{what}: {difference}\n{}", String::from_utf8_lossy(shown))
-        });
-        ours
-    }
-
-    fn finish(self, where_from: &str) {
-        self.read
-            .finish(&format!("{where_from}: texts that are read"));
-        let refused = Reason::ALL.into_iter().zip(self.refused);
-        for (reason, tally) in refused.filter(|(_, tally)| !tally.is_empty()) {
-            let what = format!("{where_from}: {}", reason.name());
-            if reason.is_shared() {
-                tally.finish(&what);
-            } else {
-                tally.finish_described(&what);
-            }
-        }
-    }
-}
-
-/// Whether the answer and the records are what they must be, and the published Rust's answer such
-/// as goes with it; if not, the first thing that is not.
-fn judged(
-    text: &[u8],
-    ours: Outcome,
-    records: &mut Records,
-    expected: &Reading,
-) -> Result<(), String> {
-    if ours != expected.outcome {
-        return Err(format!("ours {ours}, not {}", expected.outcome));
-    }
-    if !records.are_clear_past(&ours) {
-        return Err(format!("{ours}: records past the counts are not clear"));
-    }
-    match ours {
-        Outcome::Read(counts) => {
-            let model = Model::of_records(records, &counts);
-            holds(records, &counts, &model, expected)?;
-            is_read_alike(text, &model, expected.symbols_differ)
-        }
-        Outcome::Refused(refusal) if refusal.reason.is_shared() => is_refused_alike(text, refusal),
-        // The published Rust lacks the limit: `expected` alone says that it is passed.
-        Outcome::Refused(_) => Ok(()),
-    }
-}
-
-/// Whether the records hold what the published Rust makes of the same rows, elements by our rule.
-fn holds(
-    records: &Records,
-    counts: &Counts,
-    model: &Model,
-    expected: &Reading,
-) -> Result<(), String> {
-    if counts.rows != counts.skipped + counts.outdone + counts.atoms {
-        return Err(format!("{counts:?} do not add up"));
-    }
-    if *model != expected.model {
-        let difference = model.difference(&expected.model);
-        return Err(format!("ours differs from the published rows {difference}"));
-    }
-    let occupancies = records.occupancies.filled(counts.atoms).iter();
-    let occupancies: Vec<u64> = occupancies.map(|occupancy| occupancy.to_bits()).collect();
-    if occupancies != expected.occupancies {
-        return Err(format!(
-            "occupancies {occupancies:?}, not {:?}",
-            expected.occupancies
-        ));
-    }
-    Ok(())
-}
-
-/// Whether the published `read` makes the same of the whole text. Its structure does not keep how a
-/// symbol was spelled: where the text has one that is an element to it alone, ours may be none.
-fn is_read_alike(text: &[u8], ours: &Model, symbols_differ: bool) -> Result<(), String> {
-    let published = answers::read(text)
-        .map_err(|error| format!("ours is read, the published Rust says {error:?}"))?;
-    let mut published = Model::of_published(&published);
-    if symbols_differ {
-        let elements = published.elements().into_iter().zip(ours.elements());
-        let by_our_rule = elements.map(|(theirs, ours)| if ours == 0 { 0 } else { theirs });
-        let by_our_rule: Vec<u8> = by_our_rule.collect();
-        published = published.with_elements(&by_our_rule);
-    }
-    if *ours == published {
-        return Ok(());
-    }
-    let difference = ours.difference(&published);
-    Err(format!("ours differs from the published Rust {difference}"))
-}
-
-/// Whether the published `read` refuses the whole text for the same reason, and at the same line.
-fn is_refused_alike(text: &[u8], ours: Refusal) -> Result<(), String> {
-    let error = match answers::read(text) {
-        Err(error) => error,
-        Ok(_) => return Err(format!("ours {ours:?}, the published Rust reads it")),
-    };
-    // The published Rust says which residue it does not know, not which place it has.
-    let told = match ours.reason {
-        Reason::UnknownResidue => Refusal { detail: 0, ..ours },
-        _ => ours,
-    };
-    if readings::refusal_of(&error) == Some(told) {
-        return Ok(());
-    }
-    Err(format!("ours {ours:?}, the published Rust says {error:?}"))
-}
-
 #[test]
 fn small_texts_are_read_alike() {
     let mut tallies = Tallies::default();
-    let mut records = Records::new(AMPLE);
+    let mut records = Records::new(Room::AMPLE);
     for edge in cifs::edges() {
-        tallies.compare("edge", &edge, &mut records, AMPLE);
+        tallies.compare("edge", &edge, &mut records, Room::AMPLE);
     }
     for number in 0..cifs::count() {
         let what = format!("text {number}");
-        tallies.compare(&what, &cifs::text(number), &mut records, AMPLE);
+        tallies.compare(&what, &cifs::text(number), &mut records, Room::AMPLE);
     }
     tallies.finish("small");
 }
@@ -205,8 +68,8 @@ fn the_shortest_slice_decides() {
     for number in (0..cifs::count()).step_by(STEP) {
         let text = cifs::text(number);
         let what = format!("text {number}");
-        let mut records = Records::new(AMPLE);
-        let Outcome::Read(counts) = tallies.compare(&what, &text, &mut records, AMPLE) else {
+        let mut records = Records::new(Room::AMPLE);
+        let Outcome::Read(counts) = tallies.compare(&what, &text, &mut records, Room::AMPLE) else {
             continue;
         };
         let fitting = Room::of_counts(&counts);
@@ -266,7 +129,7 @@ fn greatest_sizes_are_kept() {
 }
 
 fn rows(count: usize, row: impl Fn(usize) -> String) -> Text {
-    let headers = loops::atom_items(COLUMNS).join("\n");
+    let headers = loops::fewest().join("\n");
     let rows: String = (0..count).map(row).collect();
     format!("loop_\n{headers}\n{rows}").into_bytes()
 }

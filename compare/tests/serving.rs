@@ -10,15 +10,9 @@ use compare::servings::{Answer, Serving};
 use compare::structures::Model;
 use compare::tally::Tally;
 use compare::texts::{self, Text};
-use compare::{cifs, corpus};
+use compare::{cifs, corpus, loops};
 use std::collections::BTreeMap;
 
-/// More than the small texts need, and little to look through after each of them.
-const AMPLE: Room = Room {
-    chains: 40,
-    residues: 120,
-    atoms: 200,
-};
 /// How often each file of the corpus is damaged.
 const TIMES_DAMAGED: usize = 3;
 /// One of how many small texts is taken in with each slice as the shortest: of every family some.
@@ -167,13 +161,13 @@ fn holds(records: &mut Records, answer: u32, reading: &Reading) -> Result<(), St
 #[test]
 fn small_texts_are_served_alike() {
     let mut tallies = Tallies::default();
-    let mut records = Records::new(AMPLE);
+    let mut records = Records::new(Room::AMPLE);
     for edge in cifs::edges() {
-        tallies.both("edge", &edge, &mut records, AMPLE);
+        tallies.both("edge", &edge, &mut records, Room::AMPLE);
     }
     for number in 0..cifs::count() {
         let what = format!("text {number}");
-        tallies.both(&what, &cifs::text(number), &mut records, AMPLE);
+        tallies.both(&what, &cifs::text(number), &mut records, Room::AMPLE);
     }
     tallies.finish("small");
 }
@@ -225,9 +219,8 @@ fn own_records_have_their_sizes() {
 }
 
 fn rows(count: usize, row: impl Fn(usize) -> String) -> Text {
-    let items = "auth_atom_id auth_comp_id auth_asym_id auth_seq_id Cartn_x Cartn_y Cartn_z";
     let mut lines = vec!["loop_".to_string()];
-    lines.extend(items.split(' ').map(|item| format!("_atom_site.{item}")));
+    lines.extend(loops::fewest());
     lines.extend((0..count).map(row));
     lines.join("\n").into_bytes()
 }
@@ -238,7 +231,7 @@ fn the_shortest_slice_decides() {
     let mut tallies = Tallies::default();
     for number in (0..cifs::count()).step_by(STEP) {
         let text = cifs::text(number);
-        let Outcome::Read(counts) = readings::read(&text, AMPLE).outcome else {
+        let Outcome::Read(counts) = readings::read(&text, Room::AMPLE).outcome else {
             continue;
         };
         let fitting = Room::of_counts(&counts);
@@ -264,10 +257,10 @@ fn the_shortest_slice_decides() {
 #[test]
 fn the_longest_text_is_taken() {
     let mut tallies = Tallies::default();
-    let mut records = Records::new(AMPLE);
+    let mut records = Records::new(Room::AMPLE);
     for past in 0..=1 {
         let text = vec![b'\n'; LONGEST_TEXT + past];
-        tallies.both("longest", &text, &mut records, AMPLE);
+        tallies.both("longest", &text, &mut records, Room::AMPLE);
     }
     tallies.finish("longest texts");
 }
@@ -277,7 +270,7 @@ fn the_longest_text_is_taken() {
 fn written_texts_come_back() {
     let mut tally = Tally::default();
     for number in 0..cifs::count() {
-        let due = Due::new(&cifs::text(number), AMPLE);
+        let due = Due::new(&cifs::text(number), Room::AMPLE);
         let Serving::Written(_, text) = due.serving else {
             continue;
         };
@@ -298,7 +291,7 @@ fn other_results_change_nothing() {
     let mut tally = Tally::default();
     for text in cifs::edges().into_iter().chain([vec![0], vec![b' '; 3000]]) {
         for length in (0..RESULT_BYTES).chain(RESULT_BYTES + 1..60) {
-            let mut records = Records::new(AMPLE);
+            let mut records = Records::new(Room::AMPLE);
             let ((own, lent), bytes) = room::lend(2000, |out| {
                 let (mut one, mut two) = (vec![DIRT; length], vec![DIRT; length]);
                 let own = service::intake(&text, out, &mut one);

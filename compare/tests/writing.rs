@@ -8,11 +8,6 @@ use compare::room::lend;
 use compare::tally::Tally;
 use compare::{answers, cifs, corpus, writings};
 
-const AMPLE: Room = Room {
-    chains: 40,
-    residues: 120,
-    atoms: 200,
-};
 const NOT_WELL_FORMED: Writing = Writing::Refused(12, 0);
 /// One of how many small texts is damaged after it is read.
 const STEP: usize = 29;
@@ -62,14 +57,14 @@ fn compare(tally: &mut Tally, what: &str, text: &[u8], records: &mut Records, ro
 #[test]
 fn small_texts_are_written_alike() {
     let mut tally = Tally::default();
-    let mut records = Records::new(AMPLE);
+    let mut records = Records::new(Room::AMPLE);
     for number in 0..cifs::count() {
         compare(
             &mut tally,
             &format!("text {number}"),
             &cifs::text(number),
             &mut records,
-            AMPLE,
+            Room::AMPLE,
         );
     }
     tally.finish("writings of small texts");
@@ -142,7 +137,7 @@ const DAMAGES: [Damage; 16] = [
 #[test]
 fn damaged_records_are_refused() {
     let mut tally = Tally::default();
-    let mut records = Records::new(AMPLE);
+    let mut records = Records::new(Room::AMPLE);
     for number in (0..cifs::count()).step_by(STEP) {
         let text = cifs::text(number);
         for (what, damage) in DAMAGES {
