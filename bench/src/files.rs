@@ -1,6 +1,6 @@
 //! The texts that are timed: mmCIF files as the archive writes them, of a given number of rows.
-use compare::loops;
 use compare::records::Room;
+use compare::{loops, places};
 use std::fmt::Write;
 
 /// What each chain of a file has: residues of so many atoms, and waters behind them.
@@ -37,10 +37,8 @@ pub enum Order {
     Model,
     /// All waters behind the last chain, as the archive has them.
     Archive,
-    /// The first order backwards.
-    Reverse,
-    /// No order: each row where a fixed shuffle puts it.
-    Scattered,
+    /// The rows of the first order in another.
+    Rows(places::Order),
 }
 
 /// A file to read: all that its text is made from.
@@ -113,17 +111,15 @@ impl File {
                 let waters = rows.clone().filter(|row| row.atom.is_none());
                 Box::new(rows.filter(|row| row.atom.is_some()).chain(waters))
             }
-            Order::Reverse => Box::new(rows.rev()),
-            Order::Scattered => {
+            Order::Rows(order) => {
                 let shape = self.shape;
-                let mut places: Vec<usize> = (0..self.rows).collect();
-                places.sort_unstable_by_key(|&place| scattered(place as u64));
-                Box::new(places.into_iter().map(move |place| shape.row(place)))
+                let places = order.places(self.rows).into_iter();
+                Box::new(places.map(move |place| shape.row(place)))
             }
         }
     }
 
-    fn rows_of_model(&self) -> impl DoubleEndedIterator<Item = Row> + Clone + use<> {
+    fn rows_of_model(&self) -> impl Iterator<Item = Row> + Clone + use<> {
         let shape = self.shape;
         (0..self.rows).map(move |place| shape.row(place))
     }
@@ -171,14 +167,6 @@ impl Row {
         );
         written.expect("a text takes all that is written");
     }
-}
-
-/// A number that says nothing of the place, and is of no other: the steps of SplitMix64.
-fn scattered(place: u64) -> u64 {
-    let mixed = place.wrapping_mul(0x9e37_79b9_7f4a_7c15);
-    let mixed = (mixed ^ (mixed >> 30)).wrapping_mul(0xbf58_476d_1ce4_e5b9);
-    let mixed = (mixed ^ (mixed >> 27)).wrapping_mul(0x94d0_49bb_1331_11eb);
-    mixed ^ (mixed >> 31)
 }
 
 /// A, B, .. Z, AA, AB, ..

@@ -1,7 +1,7 @@
 //! gemmi, timed in a process of its own, where its headers are installed (Debian's gemmi-dev and tao-pegtl-dev).
-use std::io::{BufRead, BufReader, Write};
+use crate::asked::{self, Asked};
 use std::path::PathBuf;
-use std::process::{Child, ChildStdin, ChildStdout, Command, Stdio};
+use std::process::Command;
 use std::time::Duration;
 use std::{env, fs};
 
@@ -38,20 +38,8 @@ impl Program {
         let program = self.0.as_ref().ok()?;
         let file = program.with_extension("cif");
         fs::write(&file, text).expect("a file can be written beside the program");
-        let mut child = Command::new(program)
-            .arg(&file)
-            .stdin(Stdio::piped())
-            .stdout(Stdio::piped())
-            .spawn()
-            .expect("a program that was compiled starts");
-        let asked = child.stdin.take().expect("its input is a pipe");
-        let told = BufReader::new(child.stdout.take().expect("its output is a pipe"));
-        Some(Reading {
-            child,
-            asked: Some(asked),
-            told,
-            file,
-        })
+        let asked = Asked::start(Command::new(program).arg(&file));
+        Some(Reading { asked, file })
     }
 }
 
@@ -65,29 +53,19 @@ impl Drop for Program {
 
 /// A process that reads one text again and again.
 pub struct Reading {
-    child: Child,
-    asked: Option<ChildStdin>,
-    told: BufReader<ChildStdout>,
+    asked: Asked,
     file: PathBuf,
 }
 
 impl Reading {
     pub fn time(&mut self) -> Duration {
-        let asked = self
-            .asked
-            .as_mut()
-            .expect("it is asked until it is dropped");
-        asked.write_all(b"\n").expect("gemmi listens");
-        let mut line = String::new();
-        self.told.read_line(&mut line).expect("gemmi answers");
-        Duration::from_nanos(line.trim().parse().expect("gemmi reads the file"))
+        self.asked.ask();
+        asked::nanoseconds(&self.asked.answer())
     }
 }
 
 impl Drop for Reading {
     fn drop(&mut self) {
-        self.asked = None;
-        let _ = self.child.wait();
         let _ = fs::remove_file(&self.file);
     }
 }

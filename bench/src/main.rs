@@ -1,12 +1,15 @@
 //! Prints how long the proved reader, the published Rust and gemmi take for the same files, as ratios of
 //! one run, and how much memory. README.md says what each line means.
+mod asked;
 mod files;
 mod gemmi;
+mod hostile;
 mod memory;
 mod sides;
 mod tasks;
 mod timing;
 
+use compare::places;
 use files::{CHAINS, File, ONE_CHAIN, Order, RESIDUES, Shape};
 use sides::Side;
 use std::env;
@@ -16,13 +19,23 @@ use timing::Times;
 /// The numbers of rows, the last of which makes a file of about 16 MB.
 const ROWS: [usize; 3] = [10_000, 30_000, 150_000];
 
+const BACKWARDS: Order = Order::Rows(places::Order::Backwards);
 /// What is timed at each of these numbers.
-const GROWING: [(&str, Shape, Order); 5] = [
+const GROWING: [(&str, Shape, Order); 6] = [
     ("waters behind their chain", CHAINS, Order::Model),
     ("waters at the end", CHAINS, Order::Archive),
-    ("chains backwards", CHAINS, Order::Reverse),
-    ("one chain backwards", ONE_CHAIN, Order::Reverse),
-    ("rows in no order", CHAINS, Order::Scattered),
+    ("chains backwards", CHAINS, BACKWARDS),
+    ("one chain backwards", ONE_CHAIN, BACKWARDS),
+    (
+        "rows in no order",
+        CHAINS,
+        Order::Rows(places::Order::Shuffled),
+    ),
+    (
+        "one chain from the middle outwards",
+        ONE_CHAIN,
+        Order::Rows(places::Order::Outwards),
+    ),
 ];
 const LARGEST: (&str, File) = (
     "waters at the end",
@@ -44,15 +57,25 @@ const MOST_RESIDUES: (&str, File) = (
 const IN_MEMORY: [(&str, File); 2] = [LARGEST, MOST_RESIDUES];
 
 fn main() {
-    let arguments: Vec<String> = env::args().collect();
+    let arguments: Vec<String> = env::args().skip(1).collect();
     match &arguments[..] {
-        [_] => table(),
-        [_, word, number, reading] if word == memory::WORD => {
+        [] => table(),
+        [word, options @ ..] if word == hostile::WORD => {
+            hostile::Options::of(options).map_or_else(usage, |options| hostile::table(&options));
+        }
+        [word, number, reading] if word == memory::WORD => {
             let number: usize = number.parse().expect("a file has a number");
             memory::serve(&IN_MEMORY[number].1, reading);
         }
-        _ => eprintln!("usage: bench"),
+        [word, number, most, side] if word == hostile::readers::WORD => {
+            hostile::readers::serve(number, most, side);
+        }
+        _ => usage(),
     }
+}
+
+fn usage() {
+    eprintln!("usage: bench [{}]", hostile::USAGE);
 }
 
 fn table() {

@@ -4,6 +4,7 @@ use compare::outcomes::{Counts, Outcome};
 use compare::records::Records;
 use compare::structures::Model;
 use compare::{answers, probe};
+use published::model::structure::Structure;
 use std::hint::black_box;
 use std::time::{Duration, Instant};
 
@@ -23,42 +24,57 @@ impl Side {
         }
     }
 
-    /// How long one reading takes. What is made before and given back after it is not timed.
-    pub fn time(self, text: &str, records: &mut Records) -> Duration {
+    /// What one reading makes, and how long it takes. What is made before and given back after it is not
+    /// timed.
+    pub fn read(self, text: &str, records: &mut Records) -> (Made, Duration) {
         match self {
             Self::Ours => {
                 records.soil();
                 let began = Instant::now();
-                black_box(counts(text, records));
-                began.elapsed()
+                let outcome = black_box(probe::read(text.as_bytes(), records));
+                let took = began.elapsed();
+                match outcome {
+                    Outcome::Read(counts) => (Made::Ours(counts), took),
+                    refused => panic!("the file is {refused}"),
+                }
             }
             Self::Published => {
                 let began = Instant::now();
                 let structure = black_box(answers::structure(text));
                 let took = began.elapsed();
-                assert!(structure.is_some(), "the published Rust reads the file");
-                took
+                let structure = structure.expect("the published Rust reads the file");
+                (Made::Published(structure), took)
             }
         }
     }
+
+    pub fn time(self, text: &str, records: &mut Records) -> Duration {
+        self.read(text, records).1
+    }
 }
 
-fn counts(text: &str, records: &mut Records) -> Counts {
-    match probe::read(text.as_bytes(), records) {
-        Outcome::Read(counts) => counts,
-        refused => panic!("the file is {refused}"),
+/// What a side made: how much of the records ours filled, or the published structure.
+pub enum Made {
+    Ours(Counts),
+    Published(Structure),
+}
+
+impl Made {
+    pub fn model(&self, records: &Records) -> Model {
+        match self {
+            Self::Ours(counts) => Model::of_records(records, counts),
+            Self::Published(structure) => Model::of_published(structure),
+        }
     }
 }
 
 /// Fails if the two do not make the same of the file: what is timed has to be the same work.
 pub fn compare(file: &File, text: &str) {
     let mut records = Records::new(file.room());
-    let counts = counts(text, &mut records);
-    let structure = answers::structure(text).expect("the published Rust reads the file");
-    let (ours, published) = (
-        Model::of_records(&records, &counts),
-        Model::of_published(&structure),
-    );
+    let [ours, published] = Side::ALL.map(|side| {
+        let (made, _) = side.read(text, &mut records);
+        made.model(&records)
+    });
     assert!(
         ours == published,
         "{file:?}: {}",

@@ -11,7 +11,7 @@ use std::fmt;
 /// code.
 pub type Key = (usize, i32, Option<char>);
 
-#[derive(Debug, Clone, PartialEq, Eq)]
+#[derive(Debug, Clone, PartialEq, Eq, Hash)]
 pub struct Residue {
     pub key: Key,
     pub name: String,
@@ -21,7 +21,7 @@ pub struct Residue {
     pub position: u8,
 }
 
-#[derive(Debug, Clone, PartialEq, Eq)]
+#[derive(Debug, Clone, PartialEq, Eq, Hash)]
 pub struct Atom {
     pub residue: Key,
     pub name: String,
@@ -31,7 +31,7 @@ pub struct Atom {
 }
 
 /// Chains by their names, residues and atoms, each in the order of the structure.
-#[derive(Debug, Clone, Default, PartialEq, Eq)]
+#[derive(Debug, Clone, Default, PartialEq, Eq, Hash)]
 pub struct Model {
     pub chains: Vec<String>,
     pub residues: Vec<Residue>,
