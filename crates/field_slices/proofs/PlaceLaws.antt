@@ -8,7 +8,7 @@ use native.Mathlib.Omega.{arith}
 use lib.ListN.{length, getD}
 use Rattle.field_slices.specs.declared.places.Place.{Place}
 use Rattle.field_slices.specs.declared.places.Place.the-variants.{At, Before}
-use Rattle.field_slices.specs.Places.{Ascending, further, placeIn}
+use Rattle.field_slices.specs.Places.{Ascending, further, placeIn, FirstBelow}
 use Rattle.field_slices.proofs.OrderLaws.{Order, asymmetric}
 
 -- an entry that is there is the same whatever stands for one that is not
@@ -18,10 +18,6 @@ getD-any (x ∷ l) zero d e h = refl
 getD-any (x ∷ l) (suc j) d e h = getD-any l j d e (le-of-suc-le-suc h)
 
 module _ {A : Type 0} {less : A → A → Bool} (o : Order less) (d : A) where
-  -- each of the first i entries is below c
-  abbrev pub FirstBelow : A → List A → ℕ → Type 0
-  FirstBelow c l i = (j : ℕ) → j < i → less (getD l j d) c ≡ true
-
   -- ---- a list that ascends
   leads-all : (x : A) (l : List A) → Ascending less (x ∷ l) → (q : ℕ) → q < length l → less x (getD l q d) ≡ true
   unfolding Ascending
@@ -39,17 +35,17 @@ module _ {A : Type 0} {less : A → A → Bool} (o : Order less) (d : A) where
   -- ---- the walk's answer
 
   -- the tail of a list whose first i + 1 entries are below c
-  tail-below : (c x : A) (l : List A) (i : ℕ) → FirstBelow c (x ∷ l) (suc i) → FirstBelow c l i
+  tail-below : (c x : A) (l : List A) (i : ℕ) → FirstBelow less d c (x ∷ l) (suc i) → FirstBelow less d c l i
   tail-below c x l i b j h = b (suc j) (omega arith)
 
-  pub place-before : (c : A) (l : List A) (i : ℕ) → i ≤ length l → FirstBelow c l i → (i < length l → less c (getD l i d) ≡ true) → placeIn less c l ≡ Before i
+  pub place-before : (c : A) (l : List A) (i : ℕ) → i ≤ length l → FirstBelow less d c l i → (i < length l → less c (getD l i d) ≡ true) → placeIn less c l ≡ Before i
   unfolding placeIn
   place-before c [] zero h b a = refl
   place-before c [] (suc i) h b a = absurd (not-suc-le-zero h)
   place-before c (x ∷ l) zero h b a = let e : less c x ≡ true = a (omega arith) in rw (asymmetric o c x e, e)
   place-before c (x ∷ l) (suc i) h b a = rw (b 0 (omega arith), place-before c l i (le-of-suc-le-suc h) (tail-below c x l i b) (λ k. a (omega arith)))
 
-  pub place-at : (c : A) (l : List A) (i : ℕ) → i < length l → FirstBelow c l i → getD l i d ≡ c → placeIn less c l ≡ At i
+  pub place-at : (c : A) (l : List A) (i : ℕ) → i < length l → FirstBelow less d c l i → getD l i d ≡ c → placeIn less c l ≡ At i
   unfolding placeIn
   place-at c [] i h b e = absurd (not-suc-le-zero h)
   place-at c (x ∷ l) zero h b e = rw (e, o .irreflexive c)
@@ -57,15 +53,15 @@ module _ {A : Type 0} {less : A → A → Bool} (o : Order less) (d : A) where
 
   -- what the answer says: `place-before` and `place-at` read the other way
   abbrev pub Says : A → List A → Place → Type 0
-  Says c l (At i) = (i < length l) × (FirstBelow c l i × (getD l i d ≡ c))
-  Says c l (Before i) = (i ≤ length l) × (FirstBelow c l i × (i < length l → less c (getD l i d) ≡ true))
+  Says c l (At i) = (i < length l) × (FirstBelow less d c l i × (getD l i d ≡ c))
+  Says c l (Before i) = (i ≤ length l) × (FirstBelow less d c l i × (i < length l → less c (getD l i d) ≡ true))
 
   pub place-says : (c : A) (l : List A) → Says c l (placeIn less c l)
   unfolding placeIn
   place-says c [] = (omega arith, ((λ j h. absurd (not-suc-le-zero h)), λ h. absurd (not-suc-le-zero h)))
   place-says c (x ∷ l) = go (less x c) (less c x) refl refl (placeIn less c l) (place-says c l)
     where
-      next : {i : ℕ} → less x c ≡ true → FirstBelow c l i → FirstBelow c (x ∷ l) (suc i)
+      next : {i : ℕ} → less x c ≡ true → FirstBelow less d c l i → FirstBelow less d c (x ∷ l) (suc i)
       next e b zero h = e
       next e b (suc j) h = b j (omega arith)
 

@@ -10,25 +10,17 @@ use native.Mathlib.Omega.{arith}
 use lib.ListN.{length, getD}
 use Rattle.field_slices.specs.declared.places.Place.{Place}
 use Rattle.field_slices.specs.declared.places.Place.the-variants.{At, Before}
-use Rattle.field_slices.specs.Places.{Ascending, Found}
+use Rattle.field_slices.specs.Places.{Ascending, Found, Narrowed}
 use Rattle.field_slices.proofs.OrderLaws.{Order}
-use Rattle.field_slices.proofs.PlaceLaws.{getD-any, FirstBelow, ascending-at, place-before, place-at}
+use Rattle.field_slices.proofs.PlaceLaws.{getD-any, ascending-at, place-before, place-at}
 
 -- the same list, said otherwise
 pub found-in : {A : Type 0} {less : A → A → Bool} {l m : List A} {c : A} {r : Place} → l ≡ m → Found less l c r → Found less m c r
 found-in {A} {less} {l} {m} {c} {r} e f = subst (λ (k : List A). Found less k c r) e f
 
 module _ {A : Type 0} {less : A → A → Bool} (o : Order less) (d : A) where
-  -- the place of c among the n entries of l is from lo to hi
-  pub record Narrowed (c : A) (l : List A) (n lo hi : ℕ) : Type 0 where
-    pub count : length l ≡ n
-    pub low : lo ≤ hi
-    pub high : hi ≤ n
-    pub before : Ascending less l → FirstBelow o d c l lo
-    pub behind : hi < n → less c (getD l hi d) ≡ true
-
   module _ {c : A} {l : List A} {n : ℕ} where
-    pub narrowed-starts : length l ≡ n → Narrowed c l n 0 n
+    pub narrowed-starts : length l ≡ n → Narrowed less d c l n 0 n
     narrowed-starts e = record {
       count = e;
       low = omega arith;
@@ -38,7 +30,7 @@ module _ {A : Type 0} {less : A → A → Bool} (o : Order less) (d : A) where
     }
 
     -- an entry x that is below c, and one that c is below
-    pub narrowed-up : {lo hi mid : ℕ} {x : A} → Narrowed c l n lo hi → mid < hi → getD l mid d ≡ x → less x c ≡ true → Narrowed c l n (mid + 1) hi
+    pub narrowed-up : {lo hi mid : ℕ} {x : A} → Narrowed less d c l n lo hi → mid < hi → getD l mid d ≡ x → less x c ≡ true → Narrowed less d c l n (mid + 1) hi
     narrowed-up {lo} {hi} {mid} {x} w h e k = record {
       count = w .count;
       low = omega arith;
@@ -56,7 +48,7 @@ module _ {A : Type 0} {less : A → A → Bool} (o : Order less) (d : A) where
             (λ (r : j < mid). o .transitive (getD l j d) (getD l mid d) c (ascending-at o d l s j mid r (omega (arith, w .count, w .high))) here)
             (eq-or-lt-of-le q)
 
-    pub narrowed-down : {lo hi mid : ℕ} {x : A} → Narrowed c l n lo hi → lo ≤ mid → mid < hi → getD l mid d ≡ x → less c x ≡ true → Narrowed c l n lo mid
+    pub narrowed-down : {lo hi mid : ℕ} {x : A} → Narrowed less d c l n lo hi → lo ≤ mid → mid < hi → getD l mid d ≡ x → less c x ≡ true → Narrowed less d c l n lo mid
     narrowed-down {lo} {hi} {mid} {x} w g h e k = record {
       count = w .count;
       low = g;
@@ -66,7 +58,7 @@ module _ {A : Type 0} {less : A → A → Bool} (o : Order less) (d : A) where
     }
 
     -- the search ends at an entry x that is c, or with no entries left
-    pub found-at : {lo hi mid : ℕ} {x : A} → Narrowed c l n lo hi → mid < hi → getD l mid d ≡ x → less x c ≡ false → less c x ≡ false → Found less l c (At mid)
+    pub found-at : {lo hi mid : ℕ} {x : A} → Narrowed less d c l n lo hi → mid < hi → getD l mid d ≡ x → less x c ≡ false → less c x ≡ false → Found less l c (At mid)
     found-at {lo} {hi} {mid} {x} w h e p q =
         let r : mid < length l = omega (arith, w .count, w .high) in
         let f : getD l mid d ≡ c = e ∙ o .same x c p q in
@@ -75,7 +67,7 @@ module _ {A : Type 0} {less : A → A → Bool} (o : Order less) (d : A) where
           place = λ s. sym (place-at o d c l mid r (λ j k. subst (λ (y : A). less (getD l j d) y ≡ true) f (ascending-at o d l s j mid k r)) f);
         }
 
-    pub found-before : {lo hi : ℕ} → Narrowed c l n lo hi → hi ≤ lo → Found less l c (Before lo)
+    pub found-before : {lo hi : ℕ} → Narrowed less d c l n lo hi → hi ≤ lo → Found less l c (Before lo)
     found-before {lo} {hi} w h =
         let e : lo ≡ hi = omega (arith, w .low) in
         let r : lo ≤ length l = omega (arith, w .count, w .high) in

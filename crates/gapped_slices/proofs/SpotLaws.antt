@@ -14,12 +14,12 @@ use lib.Seq.{getD-append-add, take-all}
 use Rattle.field_slices.specs.declared.places.Place.{Place}
 use Rattle.field_slices.specs.declared.places.Place.the-variants.{At, Before}
 use Rattle.gapped_slices.specs.declared.spots.Spot.{Spot}
-use Rattle.field_slices.specs.Places.{pairs, Ascending, placeIn, Found}
+use Rattle.field_slices.specs.Places.{pairs, Ascending, placeIn, Found, FirstBelow, Narrowed}
 use Rattle.gapped_slices.specs.Spots.{spotOf, Spotted}
 use Rattle.field_slices.proofs.OrderLaws.{Order}
 use Rattle.field_slices.proofs.PairLaws.{take-pairs}
-use Rattle.field_slices.proofs.PlaceLaws.{FirstBelow, place-before, place-at, Says, place-says}
-use Rattle.field_slices.proofs.SearchLaws.{Narrowed, narrowed-up, narrowed-down, found-at, found-before}
+use Rattle.field_slices.proofs.PlaceLaws.{place-before, place-at, Says, place-says}
+use Rattle.field_slices.proofs.SearchLaws.{narrowed-up, narrowed-down, found-at, found-before}
 
 -- all that is before an index, and all that is behind it, as they are lent
 pub first-of : {A : Type 0} (l : List A) (k : ℕ) → take k l ≡ take (k - 0) l
@@ -62,27 +62,27 @@ module _ {A : Type 0} {less : A → A → Bool} where
   pub spotted-in : {l m : List A} {c : A} {s : Spot} → l ≡ m → Spotted less l c s → Spotted less m c s
   spotted-in {l} {m} {c} {s} e f = subst (λ (k : List A). Spotted less k c s) e f
 
-  pub narrowed-in : {o : Order less} {d c : A} {l m : List A} {n k lo hi : ℕ} → l ≡ m → n ≡ k → Narrowed o d c l n lo hi → Narrowed o d c m k lo hi
-  narrowed-in {o} {d} {c} {l} {m} {n} {k} {lo} {hi} e f w = subst (λ (p : List A × ℕ). Narrowed o d c (p .0) (p .1) lo hi) (λ i. (e i, f i)) w
+  pub narrowed-in : {d c : A} {l m : List A} {n k lo hi : ℕ} → l ≡ m → n ≡ k → Narrowed less d c l n lo hi → Narrowed less d c m k lo hi
+  narrowed-in {d} {c} {l} {m} {n} {k} {lo} {hi} e f w = subst (λ (p : List A × ℕ). Narrowed less d c (p .0) (p .1) lo hi) (λ i. (e i, f i)) w
 
   module _ (o : Order less) (d c : A) where
     -- ---- looks, back from the end, on from the start, and anywhere between
     module _ {l : List A} {n : ℕ} where
-      pub spot-behind-last : {hi : ℕ} {x : A} → Narrowed o d c l n 0 hi → 0 < hi → getD l (hi - 1) d ≡ x → less x c ≡ true → Spotted less l c (record { front = hi; new = true })
+      pub spot-behind-last : {hi : ℕ} {x : A} → Narrowed less d c l n 0 hi → 0 < hi → getD l (hi - 1) d ≡ x → less x c ≡ true → Spotted less l c (record { front = hi; new = true })
       spot-behind-last w h e k = spot-new (found-before o d (narrowed-up o d w (omega arith) e k) (omega arith)) (omega arith)
 
-      pub spot-last : {hi : ℕ} {x : A} → Narrowed o d c l n 0 hi → 0 < hi → getD l (hi - 1) d ≡ x → less x c ≡ false → less c x ≡ false
+      pub spot-last : {hi : ℕ} {x : A} → Narrowed less d c l n 0 hi → 0 < hi → getD l (hi - 1) d ≡ x → less x c ≡ false → less c x ≡ false
           → Spotted less l c (record { front = hi; new = false })
       spot-last w h e p q = spot-there (found-at o d w (omega arith) e p q) (omega arith)
 
-      pub spot-before-next : {lo : ℕ} {x : A} → Narrowed o d c l n lo n → lo < n → getD l lo d ≡ x → less c x ≡ true → Spotted less l c (record { front = lo; new = true })
+      pub spot-before-next : {lo : ℕ} {x : A} → Narrowed less d c l n lo n → lo < n → getD l lo d ≡ x → less c x ≡ true → Spotted less l c (record { front = lo; new = true })
       spot-before-next w h e k = spot-new (found-before o d (narrowed-down o d w (omega arith) h e k) (omega arith)) refl
 
-      pub spot-at : {lo hi mid : ℕ} {x : A} → Narrowed o d c l n lo hi → mid < hi → getD l mid d ≡ x → less x c ≡ false → less c x ≡ false
+      pub spot-at : {lo hi mid : ℕ} {x : A} → Narrowed less d c l n lo hi → mid < hi → getD l mid d ≡ x → less x c ≡ false → less c x ≡ false
           → Spotted less l c (record { front = mid + 1; new = false })
       spot-at w h e p q = spot-there (found-at o d w h e p q) (omega arith)
 
-      pub spot-no-more : {lo hi : ℕ} → Narrowed o d c l n lo hi → hi ≤ lo → Spotted less l c (record { front = lo; new = true })
+      pub spot-no-more : {lo hi : ℕ} → Narrowed less d c l n lo hi → hi ≤ lo → Spotted less l c (record { front = lo; new = true })
       spot-no-more w h = spot-new (found-before o d w h) refl
 
     -- ---- two lists, one behind the other
@@ -93,11 +93,11 @@ module _ {A : Type 0} {less : A → A → Bool} where
       in-first : (i : ℕ) → i < length x → getD (x ++ y) i d ≡ getD x i d
       in-first i h = List·getD-append x y d i h
 
-      first-below : (i : ℕ) → i ≤ length x → FirstBelow o d c x i → FirstBelow o d c (x ++ y) i
+      first-below : (i : ℕ) → i ≤ length x → FirstBelow less d c x i → FirstBelow less d c (x ++ y) i
       first-below i h b j k = ap (λ (z : A). less z c) (in-first j (omega arith)) ∙ b j k
 
       -- all of the first list, and some of the second
-      both-below : (i : ℕ) → FirstBelow o d c x (length x) → FirstBelow o d c y i → FirstBelow o d c (x ++ y) (length x + i)
+      both-below : (i : ℕ) → FirstBelow less d c x (length x) → FirstBelow less d c y i → FirstBelow less d c (x ++ y) (length x + i)
       both-below i a b j k = go (decLt j (length x))
         where
           go : Dec (j < length x) → less (getD (x ++ y) j d) c ≡ true
@@ -130,7 +130,7 @@ module _ {A : Type 0} {less : A → A → Bool} where
               → record { front = length x + t .front; new = t .new } ≡ spotOf (placeIn less c (x ++ y))
           from (At i) w e q v u = absurd (false≢true (sym (ap (λ (z : Spot). z .new) e) ∙ n))
           from (Before i) w e (At j) v u =
-              let all : FirstBelow o d c x (length x) = λ m k. w .1 .0 m (omega (arith, h, ap (λ (z : Spot). z .front) e)) in
+              let all : FirstBelow less d c x (length x) = λ m k. w .1 .0 m (omega (arith, h, ap (λ (z : Spot). z .front) e)) in
               (λ p. record { front = length x + u p .front; new = u p .new })
               ∙ (λ p. record { front = far j p; new = false })
               ∙ ap spotOf (sym (place-at o d c (x ++ y) (length x + j) (omega (arith, v .0, long)) (both-below j all (v .1 .0)) (getD-append-add x y j d ∙ v .1 .1)))
@@ -138,7 +138,7 @@ module _ {A : Type 0} {less : A → A → Bool} where
               far : (j : ℕ) → length x + suc j ≡ suc (length x + j)
               far j = omega arith
           from (Before i) w e (Before j) v u =
-              let all : FirstBelow o d c x (length x) = λ m k. w .1 .0 m (omega (arith, h, ap (λ (z : Spot). z .front) e)) in
+              let all : FirstBelow less d c x (length x) = λ m k. w .1 .0 m (omega (arith, h, ap (λ (z : Spot). z .front) e)) in
               (λ p. record { front = length x + u p .front; new = u p .new })
               ∙ ap spotOf
               (sym

@@ -5,9 +5,7 @@ ghost use Prim.Native.Nat.{_+_, _≤_};
 ghost use lib.Dec.{leb, ltb};
 ghost use lib.ListN.{length, take};
 ghost use Rattle.gapped_slices.specs.Gaps.{closed};
-ghost use Rattle.field_slices.specs.Places.{pairs, below};
-ghost use Rattle.field_slices.proofs.OrderLaws.{numbers, by-both};
-ghost use Rattle.field_slices.proofs.SearchLaws.{Narrowed};
+ghost use Rattle.field_slices.specs.Places.{pairs, below, Narrowed};
 ghost use Rattle.gapped_slices.specs.Spots.{Spotted};
 use field_slices::smaller;
 
@@ -36,7 +34,7 @@ pub(crate) fn is_within(size: usize, front: usize, behind: usize) -> bool
 
 // By halves among the entries from `from` to `to`, where those before them are known to be less, and those behind them greater.
 fn halves_key(keys: &[u64], from: usize, to: usize, key: u64) -> Spot
-    requires { ⌜ Narrowed numbers 0 key (now keys) (length (now keys)) from to ⌝ }
+    requires { ⌜ Narrowed ltb 0 key (now keys) (length (now keys)) from to ⌝ }
     ensures { λ r. ⌜ Spotted ltb (now (keys .entry)) key r ⌝ }
 {
     let mut lo = from;
@@ -154,7 +152,7 @@ fn is_below(k: u64, m: u64, key: u64, name: u64) -> bool
 }
 
 fn halves(keys: &[u64], names: &[u64], from: usize, to: usize, key: u64, name: u64) -> Spot
-    requires { ⌜ (length (now keys) ≤ length (now names)) × Narrowed by-both (0, 0) (key, name) (pairs (now keys) (now names)) (length (now keys)) from to ⌝ }
+    requires { ⌜ (length (now keys) ≤ length (now names)) × Narrowed below (0, 0) (key, name) (pairs (now keys) (now names)) (length (now keys)) from to ⌝ }
     ensures { λ r. ⌜ Spotted below (pairs (now (keys .entry)) (now (names .entry))) (key, name) r ⌝ }
 {
     let mut lo = from;

@@ -2,17 +2,19 @@
 use mathlib.Core.Path.{_≡_}
 use Prim.Native.Nat.{ℕ, _+_, _-_, _/_}
 use native.Mathlib.Omega.{arith}
+use lib.Dec.{ltb}
 use lib.ListN.{take, getD}
 use lib.Seq.{length-take-le, getD-take}
 use borrow.Author.Tests.{lt-ltb, le-ltb}
 use borrow.Author.Needs.{needs}
+use Rattle.field_slices.specs.Places.{Narrowed}
 use Rattle.field_slices.proofs.OrderLaws.{numbers}
-use Rattle.field_slices.proofs.SearchLaws.{Narrowed, narrowed-starts, narrowed-up, narrowed-down, found-at, found-before}
+use Rattle.field_slices.proofs.SearchLaws.{narrowed-starts, narrowed-up, narrowed-down, found-at, found-before}
 use Rattle.field_slices.proofs.places.search_key.Statement.{statement}
 use Rattle.field_slices.proofs.places.search_key.Tie as tie
 
 abbrev Inv-loop : tie.InvT-loop
-Inv-loop keys n key lo₀ hi₀ lo hi = Narrowed numbers 0 key (take n keys) n lo hi
+Inv-loop keys n key lo₀ hi₀ lo hi = Narrowed ltb 0 key (take n keys) n lo hi
 
 abbrev μ-loop : tie.MeasureT-loop
 μ-loop keys n key lo₀ hi₀ lo hi = hi - lo

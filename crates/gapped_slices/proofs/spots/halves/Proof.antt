@@ -3,17 +3,17 @@ use mathlib.Core.Path.{_≡_, sym, _∙_}
 use Prim.Native.Nat.{ℕ, _+_, _-_, _/_}
 use native.Mathlib.Omega.{arith}
 use lib.ListN.{length, getD}
-use Rattle.field_slices.specs.Places.{pairs}
+use Rattle.field_slices.specs.Places.{pairs, below, Narrowed}
 use Rattle.field_slices.proofs.OrderLaws.{by-both}
 use Rattle.field_slices.proofs.PairLaws.{pairs-at}
-use Rattle.field_slices.proofs.SearchLaws.{Narrowed, narrowed-up, narrowed-down}
+use Rattle.field_slices.proofs.SearchLaws.{narrowed-up, narrowed-down}
 use Rattle.gapped_slices.proofs.SpotLaws.{spot-at, spot-no-more}
 use borrow.Author.Needs.{needs}
 use Rattle.gapped_slices.proofs.spots.halves.Statement.{statement}
 use Rattle.gapped_slices.proofs.spots.halves.Tie as tie
 
 abbrev Inv-loop : tie.InvT-loop
-Inv-loop keys names from to key name lo₀ hi₀ lo hi = Narrowed by-both (0, 0) (key, name) (pairs keys names) (length keys) lo hi
+Inv-loop keys names from to key name lo₀ hi₀ lo hi = Narrowed below (0, 0) (key, name) (pairs keys names) (length keys) lo hi
 
 abbrev μ-loop : tie.MeasureT-loop
 μ-loop keys names from to key name lo₀ hi₀ lo hi = hi - lo

@@ -2,17 +2,19 @@
 use mathlib.Core.Path.{refl}
 use Prim.Native.Nat.{_-_}
 use native.Mathlib.Omega.{arith}
+use lib.Dec.{ltb}
 use lib.ListN.{length}
 use borrow.Author.Tests.{lt-ltb, le-ltb}
+use Rattle.field_slices.specs.Places.{Narrowed}
 use Rattle.field_slices.proofs.OrderLaws.{numbers}
-use Rattle.field_slices.proofs.SearchLaws.{Narrowed, narrowed-up, narrowed-down}
+use Rattle.field_slices.proofs.SearchLaws.{narrowed-up, narrowed-down}
 use Rattle.gapped_slices.proofs.SpotLaws.{spot-at, spot-no-more}
 use borrow.Author.Needs.{needs}
 use Rattle.gapped_slices.proofs.spots.halves_key.Statement.{statement}
 use Rattle.gapped_slices.proofs.spots.halves_key.Tie as tie
 
 abbrev Inv-loop : tie.InvT-loop
-Inv-loop keys from to key lo₀ hi₀ lo hi = Narrowed numbers 0 key keys (length keys) lo hi
+Inv-loop keys from to key lo₀ hi₀ lo hi = Narrowed ltb 0 key keys (length keys) lo hi
 
 abbrev μ-loop : tie.MeasureT-loop
 μ-loop keys from to key lo₀ hi₀ lo hi = hi - lo

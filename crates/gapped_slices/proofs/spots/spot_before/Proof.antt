@@ -4,17 +4,17 @@ use Prim.Native.Nat.{_-_}
 use native.Mathlib.Omega.{arith}
 use lib.ListN.{take, getD, length-take}
 use borrow.Author.Tests.{not-true, not-false}
-use Rattle.field_slices.specs.Places.{pairs}
+use Rattle.field_slices.specs.Places.{pairs, below, Narrowed}
 use Rattle.field_slices.proofs.OrderLaws.{by-both}
 use Rattle.field_slices.proofs.PairLaws.{length-first-pairs, first-pairs-at}
-use Rattle.field_slices.proofs.SearchLaws.{Narrowed, narrowed-starts, narrowed-down}
+use Rattle.field_slices.proofs.SearchLaws.{narrowed-starts, narrowed-down}
 use Rattle.gapped_slices.proofs.SpotLaws.{first-pairs-of, spotted-in, narrowed-in, spot-behind-last, spot-last}
 use borrow.Author.Needs.{needs}
 use Rattle.gapped_slices.proofs.spots.spot_before.Statement.{statement}
 use Rattle.gapped_slices.proofs.spots.spot_before.Tie as tie
 
 abbrev Inv-loop : tie.InvT-loop
-Inv-loop keys names front key name stop i₀ i = Narrowed by-both (0, 0) (key, name) (take front (pairs keys names)) front 0 i
+Inv-loop keys names front key name stop i₀ i = Narrowed below (0, 0) (key, name) (take front (pairs keys names)) front 0 i
 
 abbrev μ-loop : tie.MeasureT-loop
 μ-loop keys names front key name stop i₀ i = i

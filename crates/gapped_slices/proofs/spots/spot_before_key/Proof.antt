@@ -2,18 +2,20 @@
 use mathlib.Core.Path.{_≡_, sym}
 use Prim.Native.Nat.{_-_}
 use native.Mathlib.Omega.{arith}
+use lib.Dec.{ltb}
 use lib.ListN.{take, getD, length-take}
 use lib.Seq.{length-take-le, getD-take}
 use borrow.Author.Tests.{lt-ltb, le-ltb}
+use Rattle.field_slices.specs.Places.{Narrowed}
 use Rattle.field_slices.proofs.OrderLaws.{numbers}
-use Rattle.field_slices.proofs.SearchLaws.{Narrowed, narrowed-starts, narrowed-down}
+use Rattle.field_slices.proofs.SearchLaws.{narrowed-starts, narrowed-down}
 use Rattle.gapped_slices.proofs.SpotLaws.{first-of, spotted-in, narrowed-in, spot-behind-last, spot-last}
 use borrow.Author.Needs.{needs}
 use Rattle.gapped_slices.proofs.spots.spot_before_key.Statement.{statement}
 use Rattle.gapped_slices.proofs.spots.spot_before_key.Tie as tie
 
 abbrev Inv-loop : tie.InvT-loop
-Inv-loop keys front key stop i₀ i = Narrowed numbers 0 key (take front keys) front 0 i
+Inv-loop keys front key stop i₀ i = Narrowed ltb 0 key (take front keys) front 0 i
 
 abbrev μ-loop : tie.MeasureT-loop
 μ-loop keys front key stop i₀ i = i

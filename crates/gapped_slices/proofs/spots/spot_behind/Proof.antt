@@ -4,17 +4,17 @@ use Prim.Native.Nat.{_-_}
 use native.Mathlib.Omega.{arith}
 use lib.ListN.{length, getD}
 use borrow.Author.Tests.{not-true, not-false}
-use Rattle.field_slices.specs.Places.{pairs}
+use Rattle.field_slices.specs.Places.{pairs, below, Narrowed}
 use Rattle.field_slices.proofs.OrderLaws.{by-both}
 use Rattle.field_slices.proofs.PairLaws.{length-pairs, pairs-at}
-use Rattle.field_slices.proofs.SearchLaws.{Narrowed, narrowed-starts, narrowed-up}
+use Rattle.field_slices.proofs.SearchLaws.{narrowed-starts, narrowed-up}
 use Rattle.gapped_slices.proofs.SpotLaws.{spot-before-next, spot-at}
 use borrow.Author.Needs.{needs}
 use Rattle.gapped_slices.proofs.spots.spot_behind.Statement.{statement}
 use Rattle.gapped_slices.proofs.spots.spot_behind.Tie as tie
 
 abbrev Inv-loop : tie.InvT-loop
-Inv-loop keys names key name stop i₀ i = Narrowed by-both (0, 0) (key, name) (pairs keys names) (length keys) i (length keys)
+Inv-loop keys names key name stop i₀ i = Narrowed below (0, 0) (key, name) (pairs keys names) (length keys) i (length keys)
 
 abbrev μ-loop : tie.MeasureT-loop
 μ-loop keys names key name stop i₀ i = length keys - i

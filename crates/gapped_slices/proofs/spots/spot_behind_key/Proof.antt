@@ -2,17 +2,19 @@
 use mathlib.Core.Path.{refl}
 use Prim.Native.Nat.{_-_}
 use native.Mathlib.Omega.{arith}
+use lib.Dec.{ltb}
 use lib.ListN.{length, getD}
 use borrow.Author.Tests.{lt-ltb, le-ltb}
+use Rattle.field_slices.specs.Places.{Narrowed}
 use Rattle.field_slices.proofs.OrderLaws.{numbers}
-use Rattle.field_slices.proofs.SearchLaws.{Narrowed, narrowed-starts, narrowed-up}
+use Rattle.field_slices.proofs.SearchLaws.{narrowed-starts, narrowed-up}
 use Rattle.gapped_slices.proofs.SpotLaws.{spot-before-next, spot-at}
 use borrow.Author.Needs.{needs}
 use Rattle.gapped_slices.proofs.spots.spot_behind_key.Statement.{statement}
 use Rattle.gapped_slices.proofs.spots.spot_behind_key.Tie as tie
 
 abbrev Inv-loop : tie.InvT-loop
-Inv-loop keys key stop i₀ i = Narrowed numbers 0 key keys (length keys) i (length keys)
+Inv-loop keys key stop i₀ i = Narrowed ltb 0 key keys (length keys) i (length keys)
 
 abbrev μ-loop : tie.MeasureT-loop
 μ-loop keys key stop i₀ i = length keys - i
