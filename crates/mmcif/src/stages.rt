@@ -193,17 +193,18 @@ fn take_row(
     }
 }
 
-// The row that waits and all that follow on it in its chain, whose name stands at its place in the chain list already.
-pub fn take_run(
-    text: &[u8],
-    residue_keys: &mut [u64],
-    residue_names: &mut [u64],
-    residue_marks: &mut [u8],
-    atom_keys: &mut [u64],
-    atom_names: &mut [u64],
-    elements: &mut [u8],
-    positions: &mut [[f64; 3]],
-    occupancies: &mut [f64],
+// The row that waits and all that follow on it in its chain, whose name stands at its place in the chain list already. One lifetime for all the slices: a caller that is proved by
+// hand lends them together.
+pub fn take_run<'t, 'a>(
+    text: &'t [u8],
+    residue_keys: &'a mut [u64],
+    residue_names: &'a mut [u64],
+    residue_marks: &'a mut [u8],
+    atom_keys: &'a mut [u64],
+    atom_names: &'a mut [u64],
+    elements: &'a mut [u8],
+    positions: &'a mut [[f64; 3]],
+    occupancies: &'a mut [f64],
     settings: Settings,
     room: Room,
     stage: Stage,
