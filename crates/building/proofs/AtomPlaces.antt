@@ -22,7 +22,7 @@ abbrev pub split : ℕ → ℕ × ℕ
 split k = (keyPart k, namePart k)
 
 -- ---- the numbers
-name-small : (k : ℕ) → namePart k < 2 ^ 64
+pub name-small : (k : ℕ) → namePart k < 2 ^ 64
 name-small k = mod-lt k (omega arith)
 
 pub parts : (key name : ℕ) → name < 2 ^ 64 → (keyPart (atomPlace key name) ≡ key) × (namePart (atomPlace key name) ≡ name)

@@ -49,25 +49,12 @@ storedIn r place name =
 pub stored-held : (r : Records) (room : Room) (h : Held) (st : State) (name place : ℕ) → ChainFound (take (h .counts .chains) (r .chains)) name place → HoldsApart r room h st
     → HoldsApart (storedIn r place name) room h st
 stored-held r room h st name place found a =
-    let m = a .model in
-    let long = length-set (r .chains) place name in
     let w = a .within in
     record {
-      within = record { sizes = w .sizes; chains = omega (arith, long, w .chains); residues = w .residues; atoms = w .atoms };
+      within = record { sizes = w .sizes; chains = omega (arith, length-set (r .chains) place name, w .chains); residues = w .residues; atoms = w .atoms };
+      chains = record { many = a .chains .many; distinct = a .chains .distinct; namesHeld = met-stay (r .chains) (h .counts .chains) name place found ∙ a .chains .namesHeld };
       residues = a .residues;
       atoms = a .atoms;
-      model = record {
-        within = record { sizes = w .sizes; chains = omega (arith, long, w .chains); residues = m .within .residues; atoms = m .within .atoms };
-        chains = record { many = m .chains .many; distinct = m .chains .distinct; namesHeld = met-stay (r .chains) (h .counts .chains) name place found ∙ m .chains .namesHeld };
-        residues = m .residues;
-        atoms = m .atoms;
-        fits = m .fits;
-        rows = m .rows;
-        skipped = m .skipped;
-        outdone = m .outdone;
-        assumed = m .assumed;
-        skippedRows = m .skippedRows;
-        outdoneRows = m .outdoneRows;
-        assumedRows = m .assumedRows;
-      };
+      fits = a .fits;
+      counted = a .counted;
     }

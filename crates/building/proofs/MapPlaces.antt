@@ -1,9 +1,9 @@
 -- The place of a key among the keys of a map says what is found there and what a put leaves: the entries before it are below.
 use Prim.{tt}
-use mathlib.Core.Path.{_≡_, sym, ap, _∙_, subst}
+use mathlib.Core.Path.{_≡_, refl, sym, ap, _∙_, subst}
 use mathlib.Core.Bool.{true}
 use mathlib.Core.List.{List, [], _∷_, map}
-use mathlib.Core.Option.{Option, none, some}
+use mathlib.Core.Option.{Option, none, some, Option·none-ne-some}
 use Prim.Native.Nat.{ℕ, suc, _≤_, _<_}
 use lib.Dec.{ltb}
 use lib.ListN.{length, take, getD, set, length-map, List·getD-map}
@@ -11,6 +11,8 @@ use lib.Seq.{set-getD}
 use borrow.Author.Tests.{lt-ltb, ltb-true}
 use Rattle.field_slices.specs.declared.places.Place.{Place}
 use Rattle.field_slices.specs.declared.places.Place.the-variants.{At, Before}
+use Rattle.gapped_slices.specs.Spots.{spotOf, Spotted}
+use Rattle.gapped_slices.specs.declared.spots.Spot.{Spot}
 use Rattle.field_slices.specs.Insertion.{ins}
 use Rattle.field_slices.specs.Places.{Ascending, placeIn}
 use Rattle.field_slices.proofs.OrderLaws.{numbers}
@@ -85,3 +87,16 @@ module _ {W : Type 0} where
 
     pub field-set : take n′ l′ ≡ set (take n l) i (field x) → Field field l′ n′ (set m i x)
     field-set q = q ∙ ap (λ (t : List A). set t i (field x)) e ∙ sym (map-set field m i x)
+
+  -- ---- a spot that was looked for, of a key that is not there
+  pub before-front : (k : ℕ) (w : W) (m : Map W) (s : Spot) → find k m ≡ none → s ≡ spotOf (placeIn ltb k (keys m)) → Before (s .front) ≡ placeIn ltb k (keys m)
+  before-front k w m s absent e = go (placeIn ltb k (keys m)) refl e
+    where
+      go : (p : Place) → p ≡ placeIn ltb k (keys m) → s ≡ spotOf p → Before (s .front) ≡ p
+      go (At i) q e = absurd (Option·none-ne-some _ (sym absent ∙ there k (λ o. w) m i q .found))
+      go (Before i) q e = ap (λ (t : Spot). Before (t .front)) e
+
+  -- by a look among the keys of a map
+  pub looked-new : (k : ℕ) (w : W) (m : Map W) (l : List ℕ) (s : Spot) → l ≡ keys m → AscendingFrom 0 m → Spotted ltb l k s → find k m ≡ none → Before (s .front) ≡ placeIn ltb k (keys m)
+  looked-new k w m l s e a f absent =
+      before-front k w m s absent (f .place (subst (Ascending ltb) (sym e) (keys-ascend 0 m a)) ∙ ap (λ (x : List ℕ). spotOf (placeIn ltb k x)) e)

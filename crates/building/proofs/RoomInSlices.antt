@@ -2,20 +2,13 @@
 use mathlib.Core.Path.{_≡_, refl, sym, ap, _∙_, subst}
 use mathlib.Core.Bool.{Bool, true, false, cond, _&&_}
 use Prim.Native.Nat.{ℕ, suc, _≤_, _<_}
-use native.Mathlib.Nat.{le-trans}
 use native.Mathlib.Omega.{arith}
 use lib.Dec.{leb}
-use lib.ListN.{length, length-set}
+use lib.ListN.{length}
 use borrow.Author.Tests.{leb-false}
-use Rattle.rows.specs.declared.rules.Site.{Site}
 use Rattle.model.specs.declared.room.Room.{Room}
 use Rattle.model.specs.Room.{noRoom}
-use Rattle.building.specs.declared.held.Held.{Held}
-use Rattle.building.specs.declared.sites.Places.{Places}
-use Rattle.building.specs.Gaps.{gathered}
 use Rattle.building.specs.Holds.{Records, Within, SameLengths}
-use Rattle.building.specs.Sites.{Placed}
-use Rattle.building.proofs.GapsHeld.{length-closed-up}
 
 module _ (new : Bool) (room n : ℕ) where
   pub room-beside : noRoom new room n ≡ false → new ≡ true → n < room
@@ -34,19 +27,6 @@ module _ (room : Room) (r : Records) (w : Within room r) (n : ℕ) where
   chain-room h = omega (arith, w .chains)
 
 -- ---- afterwards
-pub lengths-stay : {r : Records} {h : Held} {p : Places} {s : Site} {after : Records} → Placed r h p s after → SameLengths r after
-lengths-stay {r} {h} {p} {s} {after} e = record {
-  chains = ap length (e .chains) ∙ length-set (r .chains) (p .chain) (s .chain);
-  residueKeys = e .residueKeys .long;
-  residueNames = e .residueNames .long;
-  residueMarks = e .residueMarks .long;
-  atomKeys = e .atomKeys .long;
-  atomNames = e .atomNames .long;
-  elements = e .elements .long;
-  positions = e .positions .long;
-  occupancies = e .occupancies .long;
-}
-
 as-long : {m k : ℕ} (n : ℕ) → m ≡ k → n ≤ k → n ≤ m
 as-long {m} {k} n e h = subst (λ (z : ℕ). n ≤ z) (sym e) h
 
@@ -69,24 +49,4 @@ room-stays room r after e w =
         as-long atoms (e .positions) (w .atoms .3),
         as-long atoms (e .occupancies) (w .atoms .4),
       );
-    }
-
--- ---- with the gaps closed
-pub lengths-closed : (room : Room) (r : Records) (h : Held) → Within room r → h .behind .residues ≤ h .counts .residues → h .behind .atoms ≤ h .counts .atoms
-    → h .counts .residues ≤ room .residues → h .counts .atoms ≤ room .atoms → SameLengths r (gathered h r)
-lengths-closed room r h w b d m n =
-    let residues = h .counts .residues in
-    let behind = h .behind .residues in
-    let atoms = h .counts .atoms in
-    let atomsBehind = h .behind .atoms in
-    record {
-      chains = refl;
-      residueKeys = length-closed-up residues behind (r .residueKeys) b (le-trans m (w .residues .0));
-      residueNames = length-closed-up residues behind (r .residueNames) b (le-trans m (w .residues .1));
-      residueMarks = length-closed-up residues behind (r .residueMarks) b (le-trans m (w .residues .2));
-      atomKeys = length-closed-up atoms atomsBehind (r .atomKeys) d (le-trans n (w .atoms .0));
-      atomNames = length-closed-up atoms atomsBehind (r .atomNames) d (le-trans n (w .atoms .1));
-      elements = length-closed-up atoms atomsBehind (r .elements) d (le-trans n (w .atoms .2));
-      positions = length-closed-up atoms atomsBehind (r .positions) d (le-trans n (w .atoms .3));
-      occupancies = length-closed-up atoms atomsBehind (r .occupancies) d (le-trans n (w .atoms .4));
     }

@@ -2,18 +2,15 @@
 use mathlib.Core.Path.{_≡_}
 use mathlib.Core.Bool.{Bool, true, not, _&&_, cond}
 use mathlib.Core.List.{List}
-use Prim.Native.Nat.{ℕ, suc, _+_, _-_, _^_, _≤_, _<_}
+use Prim.Native.Nat.{ℕ, suc, _^_, _≤_, _<_}
 use lib.Dec.{leb, ltb}
 use lib.ListN.{length, set}
 use denote.Triple.Both.{Both}
 use Rattle.rows.specs.declared.rules.Site.{Site}
-use Rattle.gapped_slices.specs.Gaps.{closed, PutIn}
+use Rattle.gapped_slices.specs.Areas.{Lies, entriesIn}
 use Rattle.field_slices.specs.Places.{pairs, below}
-use Rattle.gapped_slices.specs.Spots.{Spotted}
 use Rattle.model.specs.Fold.{State, step}
 use Rattle.model.specs.Keys.{residueKey}
-use Rattle.model.specs.Lent.{coordinates}
-use Rattle.model.specs.Lists.{count}
 use Rattle.model.specs.Proper.{Proper}
 use Rattle.model.specs.declared.room.Lack.{Lack}
 use Rattle.model.specs.declared.room.Lack.the-variants.{Nothing, Of}
@@ -27,28 +24,23 @@ use Rattle.building.specs.declared.sites.Put.{Put}
 use Rattle.building.specs.declared.sites.Put.the-variants.{NoRoom, Done}
 use Rattle.building.specs.Gaps.{HoldsApart}
 use Rattle.building.specs.Holds.{Records, recordsOf, SameLengths}
-use Rattle.building.specs.Slices.{Betters}
+use Rattle.building.specs.Stores.{Seeks}
 
 -- ---- where it goes
-
--- how many residues and atoms come before their gaps
-abbrev pub residuesBefore : Held → ℕ
-residuesBefore h = h .counts .residues - h .behind .residues
-
-abbrev pub atomsBefore : Held → ℕ
-atomsBefore h = h .counts .atoms - h .behind .atoms
 
 -- the chain is not there
 abbrev pub isNewChain : Counts → Places → Bool
 isNewChain c p = leb (c .chains) (p .chain)
 
--- the places of a site whose chain stands at this place, as the searches say them, in slices that are long enough
-pub record SpotsFound (residueKeys atomKeys atomNames : List ℕ) (h : Held) (place : ℕ) (s : Site) (p : Places) : Type 0 where
+-- the places of a site whose chain stands at this place, as the looks say them, in slices that are long enough
+pub record SoughtFor (residueKeys atomKeys atomNames : List ℕ) (h : Held) (place : ℕ) (s : Site) (p : Places) : Type 0 where
   pub chain : p .chain ≡ place
   pub key : p .chain ≤ 4096 → p .key ≡ residueKey (p .chain) (s .sequence) (s .«insertion_code»)
-  pub residue : residuesBefore h + h .behind .residues ≤ length residueKeys → Spotted ltb (closed (residuesBefore h) (h .behind .residues) residueKeys) (p .key) (p .residue)
-  pub atom : atomsBefore h + h .behind .atoms ≤ length atomKeys → atomsBefore h + h .behind .atoms ≤ length atomNames
-      → Spotted below (pairs (closed (atomsBefore h) (h .behind .atoms) atomKeys) (closed (atomsBefore h) (h .behind .atoms) atomNames)) (p .key, s .atom) (p .atom)
+  pub residue : (let main = h .residues .main in let pocket = h .residues .pocket in Lies main (length residueKeys) → Lies pocket (length residueKeys)
+      → Seeks ltb (entriesIn main residueKeys) (entriesIn pocket residueKeys) (p .key) (h .residues) (p .residue))
+  pub atom : (let main = h .atoms .main in let pocket = h .atoms .pocket in
+      Lies main (length atomKeys) → Lies main (length atomNames) → Lies pocket (length atomKeys) → Lies pocket (length atomNames)
+      → Seeks below (pairs (entriesIn main atomKeys) (entriesIn main atomNames)) (pairs (entriesIn pocket atomKeys) (entriesIn pocket atomNames)) (p .key, s .atom) (h .atoms) (p .atom))
 
 -- what has no room
 unfoldable pub lackOf : Room → Counts → Places → Lack
@@ -61,37 +53,20 @@ lackOf room c p =
 abbrev pub withPlace : List ℕ → ℕ → ℕ → Both (List ℕ) (List ℕ)
 withPlace chains place name = record { entry = chains; exit = set chains place name }
 
-pub record Placed (r : Records) (h : Held) (p : Places) (s : Site) (after : Records) : Type 0 where
-  pub chains : after .chains ≡ set (r .chains) (p .chain) (s .chain)
-  pub residueKeys : PutIn (residuesBefore h) (h .behind .residues) (p .residue) (p .key) (r .residueKeys) (after .residueKeys)
-  pub residueNames : PutIn (residuesBefore h) (h .behind .residues) (p .residue) (s .residue) (r .residueNames) (after .residueNames)
-  pub residueMarks : PutIn (residuesBefore h) (h .behind .residues) (p .residue) (count (s .hetatm)) (r .residueMarks) (after .residueMarks)
-  pub atomKeys : PutIn (atomsBefore h) (h .behind .atoms) (p .atom) (p .key) (r .atomKeys) (after .atomKeys)
-  pub atomNames : PutIn (atomsBefore h) (h .behind .atoms) (p .atom) (s .atom) (r .atomNames) (after .atomNames)
-  pub elements : Betters (atomsBefore h) (h .behind .atoms) (p .atom) (s .occupancy) (r .occupancies) (s .element) (r .elements) (after .elements)
-  pub positions : Betters (atomsBefore h) (h .behind .atoms) (p .atom) (s .occupancy) (r .occupancies) (coordinates (s .position)) (r .positions) (after .positions)
-  pub occupancies : Betters (atomsBefore h) (h .behind .atoms) (p .atom) (s .occupancy) (r .occupancies) (s .occupancy) (r .occupancies) (after .occupancies)
-
 -- one more where that is so, up to the greatest number that there is
 unfoldable pub oneMore : Bool → ℕ → ℕ
 oneMore more n = cond (more && ltb n 18446744073709551615) (suc n) n
 
--- the counts with the site, and behind the gaps what is greater
-abbrev pub heldWith : Held → Places → Bool → Held
-heldWith h p assumed =
-    let c = h .counts in
-    record {
-      counts = record {
-        chains = oneMore (isNewChain c p) (c .chains);
-        residues = oneMore (p .residue .new) (c .residues);
-        atoms = oneMore (p .atom .new) (c .atoms);
-        rows = oneMore true (c .rows);
-        skipped = c .skipped;
-        outdone = oneMore (not (p .atom .new)) (c .outdone);
-        assumed = oneMore assumed (c .assumed);
-      };
-      behind = record { residues = c .residues - p .residue .front; atoms = c .atoms - p .atom .front };
-    }
+abbrev pub countsWith : Counts → Places → Bool → Counts
+countsWith c p assumed = record {
+  chains = oneMore (isNewChain c p) (c .chains);
+  residues = oneMore (p .residue .new) (c .residues);
+  atoms = oneMore (p .atom .new) (c .atoms);
+  rows = oneMore true (c .rows);
+  skipped = c .skipped;
+  outdone = oneMore (not (p .atom .new)) (c .outdone);
+  assumed = oneMore assumed (c .assumed);
+}
 
 -- a skipped row
 abbrev pub withSkipped : Held → Held
@@ -107,7 +82,8 @@ withSkipped h =
         outdone = c .outdone;
         assumed = c .assumed;
       };
-      behind = h .behind;
+      residues = h .residues;
+      atoms = h .atoms;
     }
 
 -- ---- the whole

@@ -1,17 +1,15 @@
-// What is held while rows are read: the counts, and how many of the records stand behind a gap, at the end of their slices.
+// What is held while rows are read: the counts, and where the records of each kind stand in their slices.
 use crate::sites::Counts;
+use crate::stores::Store;
+use crate::stores::no_store;
 ghost use mathlib.Core.Path.{_≡_};
 ghost use Prim.Native.Nat.{_-_};
 ghost use Rattle.building.specs.Gaps.{noneHeld};
 
-pub struct Behind {
-    pub residues: usize,
-    pub atoms: usize,
-}
-
 pub struct Held {
     pub counts: Counts,
-    pub behind: Behind,
+    pub residues: Store,
+    pub atoms: Store,
 }
 
 // Before the first row.
@@ -28,10 +26,8 @@ pub fn none_held() -> Held
             outdone: 0,
             assumed: 0,
         },
-        behind: Behind {
-            residues: 0,
-            atoms: 0,
-        },
+        residues: no_store(),
+        atoms: no_store(),
     }
 }
 

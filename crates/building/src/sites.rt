@@ -1,11 +1,13 @@
 // A site put into the records: its residue and its atom at its chain's place, where there is room for what is new of them.
-use crate::atoms::put_atom;
-use crate::held::Behind;
+use crate::atoms::put_new_atom;
+use crate::atoms::replace_atom;
 use crate::held::Held;
-use crate::held::rest;
-use crate::residues::put_residue;
+use crate::residues::put_new_residue;
 use crate::room::has_no_room;
-use gapped_slices::Spot;
+use crate::seeking::Sought;
+use crate::seeking::seek_atom;
+use crate::seeking::seek_residue;
+use crate::stores::Store;
 use model::Lack;
 use model::Room;
 use model::residue_key;
@@ -16,11 +18,15 @@ ghost use mathlib.Core.Path.{_≡_};
 ghost use mathlib.Core.List.{List};
 ghost use Prim.Native.Nat.{ℕ};
 ghost use lib.ListN.{take};
+ghost use Rattle.model.specs.Fold.{first, greater};
+ghost use Rattle.model.specs.Keys.{atomPlace};
 ghost use Rattle.model.specs.Lists.{count};
 ghost use Rattle.model.specs.Lent.{coordinates};
 ghost use Rattle.building.specs.Holds.{recordsBy, sizesOf};
-ghost use Rattle.building.specs.Sites.{SpotsFound, lackOf, withPlace, Placed, oneMore, heldWith, withSkipped, Did};
+ghost use Rattle.building.specs.Kinds.{residuesBy, ResiduesIn, ResiduesLong, ResiduesSame, atomsBy, AtomsIn, AtomsLong, AtomsSame};
+ghost use Rattle.building.specs.Sites.{SoughtFor, lackOf, withPlace, oneMore, countsWith, withSkipped, Did};
 ghost use Rattle.building.specs.Slices.{ChainFound};
+ghost use Rattle.building.specs.Stores.{Puts};
 
 pub struct Counts {
     pub chains: usize,
@@ -53,8 +59,8 @@ pub enum Put {
 pub struct Places {
     pub chain: usize,
     pub key: u64,
-    pub residue: Spot,
-    pub atom: Spot,
+    pub residue: Sought,
+    pub atom: Sought,
 }
 
 // ---- where it goes
@@ -67,15 +73,13 @@ fn places_of(
     place: usize,
     site: Site,
 ) -> Places
-    ensures { λ r. ⌜ SpotsFound (now («residue_keys» .entry)) (now («atom_keys» .entry)) (now («atom_names» .entry)) held place site r ⌝ }
+    ensures { λ r. ⌜ SoughtFor (now («residue_keys» .entry)) (now («atom_keys» .entry)) (now («atom_names» .entry)) held place site r ⌝ }
 {
-    let counts = held.counts;
-    let behind = held.behind;
     let key = residue_key(place, site.sequence, site.insertion_code);
-    let residues = rest(counts.residues, behind.residues);
-    let residue = gapped_slices::spot_of_key(residue_keys, residues, behind.residues, key);
-    let atoms = rest(counts.atoms, behind.atoms);
-    let atom = gapped_slices::spot_of(atom_keys, atom_names, atoms, behind.atoms, key, site.atom);
+    let residues = held.residues;
+    let residue = seek_residue(residue_keys, residues, key);
+    let atoms = held.atoms;
+    let atom = seek_atom(atom_keys, atom_names, atoms, key, site.atom);
     Places {
         chain: place,
         key: key,
@@ -130,27 +134,19 @@ fn one_more(more: bool, n: usize) -> usize
     n + 1
 }
 
-// The records behind the gaps are then those that are greater.
-fn held_with(held: Held, places: Places, assumed: bool) -> Held
-    ensures { λ r. ⌜ r ≡ heldWith held places assumed ⌝ }
+fn counts_with(counts: Counts, places: Places, assumed: bool) -> Counts
+    ensures { λ r. ⌜ r ≡ countsWith counts places assumed ⌝ }
 {
-    let counts = held.counts;
     let residue = places.residue;
     let atom = places.atom;
-    Held {
-        counts: Counts {
-            chains: one_more(counts.chains <= places.chain, counts.chains),
-            residues: one_more(residue.new, counts.residues),
-            atoms: one_more(atom.new, counts.atoms),
-            rows: one_more(true, counts.rows),
-            skipped: counts.skipped,
-            outdone: one_more(!atom.new, counts.outdone),
-            assumed: one_more(assumed, counts.assumed),
-        },
-        behind: Behind {
-            residues: rest(counts.residues, residue.front),
-            atoms: rest(counts.atoms, atom.front),
-        },
+    Counts {
+        chains: one_more(counts.chains <= places.chain, counts.chains),
+        residues: one_more(residue.new, counts.residues),
+        atoms: one_more(atom.new, counts.atoms),
+        rows: one_more(true, counts.rows),
+        skipped: counts.skipped,
+        outdone: one_more(!atom.new, counts.outdone),
+        assumed: one_more(assumed, counts.assumed),
     }
 }
 
@@ -159,7 +155,8 @@ pub fn skip_row(held: Held) -> Held
     ensures { λ r. ⌜ r ≡ withSkipped held ⌝ }
 {
     let counts = held.counts;
-    let behind = held.behind;
+    let residues = held.residues;
+    let atoms = held.atoms;
     Held {
         counts: Counts {
             chains: counts.chains,
@@ -170,61 +167,86 @@ pub fn skip_row(held: Held) -> Held
             outdone: counts.outdone,
             assumed: counts.assumed,
         },
-        behind: behind,
+        residues,
+        atoms,
     }
 }
 
-fn store_site(
-    residue_keys: &mut [u64],
-    residue_names: &mut [u64],
-    residue_marks: &mut [u8],
-    atom_keys: &mut [u64],
-    atom_names: &mut [u64],
-    elements: &mut [u8],
-    positions: &mut [[f64; 3]],
-    occupancies: &mut [f64],
-    held: Held,
+// A residue that was met before keeps what its first row said.
+fn store_residue(
+    keys: &mut [u64],
+    names: &mut [u64],
+    marks: &mut [u8],
+    room: usize,
+    store: Store,
     places: Places,
     site: Site,
-)
-    ensures { λ _. ⌜ ((chains : List ℕ) →
-        let l = recordsBy (withPlace chains (places .chain) (site .chain)) «residue_keys» «residue_names» «residue_marks» «atom_keys» «atom_names» elements positions occupancies in
-        Placed (l .entry) held places site (l .exit)) ⌝ }
+) -> Store
+    ensures { λ r. ⌜ (let l = residuesBy keys names marks in
+        Puts (ResiduesSame (l .entry) (l .exit)) (ResiduesLong (l .entry)) (ResiduesIn (l .entry)) (ResiduesIn (l .exit)) room store (places .residue) (places .key) (first site) r) ⌝ }
 {
-    let counts = held.counts;
-    let behind = held.behind;
     let residue = places.residue;
-    let atom = places.atom;
+    if !residue.new {
+        return store;
+    }
     let mark = mark_of(site.hetatm);
-    let residues = rest(counts.residues, behind.residues);
-    put_residue(
-        residue_keys,
-        residue_names,
-        residue_marks,
-        residues,
-        behind.residues,
-        residue,
+    put_new_residue(
+        keys,
+        names,
+        marks,
+        room,
+        store,
+        residue.at,
         places.key,
         site.residue,
         mark,
-    );
+    )
+}
+
+// An atom that was met before is replaced only by one with a strictly greater occupancy.
+fn store_atom(
+    keys: &mut [u64],
+    names: &mut [u64],
+    elements: &mut [u8],
+    positions: &mut [[f64; 3]],
+    occupancies: &mut [f64],
+    room: usize,
+    store: Store,
+    places: Places,
+    site: Site,
+) -> Store
+    ensures { λ r. ⌜ (let l = atomsBy keys names elements positions occupancies in
+        Puts (AtomsSame (l .entry) (l .exit)) (AtomsLong (l .entry)) (AtomsIn (l .entry)) (AtomsIn (l .exit)) room store (places .atom) (atomPlace (places .key) (site .atom)) (greater site) r) ⌝ }
+{
+    let atom = places.atom;
     let point = point_of(site.position);
-    let atoms = rest(counts.atoms, behind.atoms);
-    put_atom(
-        atom_keys,
-        atom_names,
+    if !atom.new {
+        replace_atom(
+            elements,
+            positions,
+            occupancies,
+            atom.at,
+            site.element,
+            point,
+            site.occupancy,
+        );
+        return store;
+    }
+    put_new_atom(
+        keys,
+        names,
         elements,
         positions,
         occupancies,
-        atoms,
-        behind.atoms,
-        atom,
+        room,
+        store,
+        atom.at,
         places.key,
         site.atom,
         site.element,
         point,
         site.occupancy,
-    );
+    )
 }
 
 // Step 8: room for the chain, then the residue, then the atom; then residue and atom are put in. The site's chain stands at this place of the
@@ -253,18 +275,29 @@ pub fn put_site(
     if let Lack::Of(kind) = lack {
         return Put::NoRoom(kind);
     }
-    store_site(
+    let residues = store_residue(
         residue_keys,
         residue_names,
         residue_marks,
+        room.residues,
+        held.residues,
+        places,
+        site,
+    );
+    let atoms = store_atom(
         atom_keys,
         atom_names,
         elements,
         positions,
         occupancies,
-        held,
+        room.atoms,
+        held.atoms,
         places,
         site,
     );
-    Put::Done(held_with(held, places, site.assumed))
+    Put::Done(Held {
+        counts: counts_with(counts, places, site.assumed),
+        residues,
+        atoms,
+    })
 }

@@ -4,12 +4,12 @@ use mathlib.Core.Path.{_≡_, refl, sym, ap, _∙_, subst}
 use mathlib.Core.List.{List, [], _∷_, _++_, append-assoc}
 use mathlib.Core.Bool.{Bool, true, false, cond}
 use Prim.Native.Nat.{ℕ, zero, suc, _+_, _-_, _≤_, _<_}
-use native.Mathlib.Nat.{le-of-suc-le-suc, not-suc-le-zero}
+use native.Mathlib.Nat.{le-of-suc-le-suc, not-suc-le-zero, zero-add, suc-add}
 use native.Mathlib.Numerals.{add-one}
 use native.Mathlib.Omega.{arith}
 use lib.Dec.{leb}
 use lib.ListN.{length, take, drop, getD, set, length-append, length-drop, length-set, List·getD-append}
-use lib.Seq.{length-take-le, take-suc, drop-cons, set-append-left, take-set-le, drop-set-lt, take-set-lt, take-suc-set, getD-take, drop-length}
+use lib.Seq.{length-take-le, take-suc, drop-cons, set-append-left, take-set-le, drop-set-lt, take-set-lt, take-suc-set, getD-take, drop-length, drop-set-add, getD-append-add, getD-drop}
 use borrow.Author.Tests.{leb-true, leb-false, le-leb, lt-leb}
 use Rattle.gapped_slices.specs.declared.spots.Spot.{Spot}
 use Rattle.gapped_slices.specs.Gaps.{closed, GapMoved, PutIn}
@@ -105,6 +105,10 @@ module _ {A : Type 0} where
     not-moved n = record { long = refl; entries = λ w t. absurd (n w t) }
 
   -- ---- the entries, with the gap closed
+  set-append-add : (xs ys : List A) (n : ℕ) (a : A) → set (xs ++ ys) (length xs + n) a ≡ xs ++ set ys n a
+  set-append-add [] ys n a = ap (λ (k : ℕ). set ys k a) (zero-add n)
+  set-append-add (x ∷ xs) ys n a = ap (λ (k : ℕ). set (x ∷ (xs ++ ys)) k a) (suc-add (length xs) n) ∙ ap (λ (r : List A). x ∷ r) (set-append-add xs ys n a)
+
   module _ (front behind : ℕ) (l : List A) where
     pub length-closed : front + behind ≤ length l → length (closed front behind l) ≡ front + behind
     unfolding closed
@@ -134,6 +138,32 @@ module _ {A : Type 0} where
     closed-at i d h k =
         List·getD-append (take front l) (drop (length l - behind) l) d i (omega (arith, length-take-le front l (omega arith)))
         ∙ getD-take front l i d k
+
+    -- the same of those behind the gap
+    module _ (gap : ℕ) (size : gap + (front + behind) ≡ length l) (i : ℕ) (from : front ≤ i) where
+      behind-first : length (take front l) + (i - front) ≡ i
+      behind-first = omega (arith, length-take-le front l (omega arith))
+
+      behind-gap : i < front + behind → length l - behind + (i - front) ≡ i + gap
+      behind-gap k = omega arith
+
+      pub closed-set-behind : (v : A) → i < front + behind → closed front behind (set l (i + gap) v) ≡ set (closed front behind l) i v
+      unfolding closed
+      closed-set-behind v k =
+          let j = length l - behind in
+          (λ p. take-set-le front l (i + gap) v (omega arith) p ++ drop (length-set l (i + gap) v p - behind) (set l (i + gap) v))
+          ∙ ap (λ (r : List A). take front l ++ r) (ap (λ (n : ℕ). drop j (set l n v)) (sym (behind-gap k)) ∙ drop-set-add j l (i - front) v)
+          ∙ sym (set-append-add (take front l) (drop j l) (i - front) v)
+          ∙ ap (λ (n : ℕ). set (take front l ++ drop j l) n v) behind-first
+
+      pub closed-at-behind : (d : A) → i < front + behind → getD (closed front behind l) i d ≡ getD l (i + gap) d
+      unfolding closed
+      closed-at-behind d k =
+          let j = length l - behind in
+          ap (λ (n : ℕ). getD (take front l ++ drop j l) n d) (sym behind-first)
+          ∙ getD-append-add (take front l) (drop j l) (i - front) d
+          ∙ getD-drop j l (i - front) d
+          ∙ ap (λ (n : ℕ). getD l n d) (behind-gap k)
 
   pub closed-front : (n : ℕ) (l : List A) → closed n 0 l ≡ take n l
   unfolding closed

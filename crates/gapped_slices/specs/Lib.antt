@@ -1,2 +1,3 @@
+pub mod Areas
 pub mod Gaps
 pub mod Spots

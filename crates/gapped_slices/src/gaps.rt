@@ -16,7 +16,7 @@ use field_slices::store_u8;
 use field_slices::store_u64;
 ghost use Rattle.gapped_slices.specs.Gaps.{GapMoved, PutIn};
 
-pub fn move_gap_u64(words: &mut [u64], front: usize, behind: usize, to: usize)
+pub(crate) fn move_gap_u64(words: &mut [u64], front: usize, behind: usize, to: usize)
     ensures { λ _. ⌜ GapMoved front behind to (now (words .entry)) (now (words .exit)) ⌝ }
 {
     if !is_within(words.len(), front, behind) {
@@ -31,7 +31,7 @@ pub fn move_gap_u64(words: &mut [u64], front: usize, behind: usize, to: usize)
     }
 }
 
-pub fn move_gap_u8(bytes: &mut [u8], front: usize, behind: usize, to: usize)
+pub(crate) fn move_gap_u8(bytes: &mut [u8], front: usize, behind: usize, to: usize)
     ensures { λ _. ⌜ GapMoved front behind to (now (bytes .entry)) (now (bytes .exit)) ⌝ }
 {
     if !is_within(bytes.len(), front, behind) {
@@ -46,7 +46,7 @@ pub fn move_gap_u8(bytes: &mut [u8], front: usize, behind: usize, to: usize)
     }
 }
 
-pub fn move_gap_f64(floats: &mut [f64], front: usize, behind: usize, to: usize)
+pub(crate) fn move_gap_f64(floats: &mut [f64], front: usize, behind: usize, to: usize)
     ensures { λ _. ⌜ GapMoved front behind to (now (floats .entry)) (now (floats .exit)) ⌝ }
 {
     if !is_within(floats.len(), front, behind) {
@@ -61,7 +61,7 @@ pub fn move_gap_f64(floats: &mut [f64], front: usize, behind: usize, to: usize)
     }
 }
 
-pub fn move_gap_point(points: &mut [[f64; 3]], front: usize, behind: usize, to: usize)
+pub(crate) fn move_gap_point(points: &mut [[f64; 3]], front: usize, behind: usize, to: usize)
     ensures { λ _. ⌜ GapMoved front behind to (now (points .entry)) (now (points .exit)) ⌝ }
 {
     if !is_within(points.len(), front, behind) {
@@ -78,7 +78,7 @@ pub fn move_gap_point(points: &mut [[f64; 3]], front: usize, behind: usize, to: 
 
 // ---- an entry put in where it is new
 
-pub fn put_u64(words: &mut [u64], front: usize, behind: usize, spot: Spot, v: u64)
+pub(crate) fn put_u64(words: &mut [u64], front: usize, behind: usize, spot: Spot, v: u64)
     ensures { λ _. ⌜ PutIn front behind spot v (now (words .entry)) (now (words .exit)) ⌝ }
 {
     let to = spot.front;
@@ -88,7 +88,7 @@ pub fn put_u64(words: &mut [u64], front: usize, behind: usize, spot: Spot, v: u6
     }
 }
 
-pub fn put_u8(bytes: &mut [u8], front: usize, behind: usize, spot: Spot, v: u8)
+pub(crate) fn put_u8(bytes: &mut [u8], front: usize, behind: usize, spot: Spot, v: u8)
     ensures { λ _. ⌜ PutIn front behind spot v (now (bytes .entry)) (now (bytes .exit)) ⌝ }
 {
     let to = spot.front;
@@ -98,7 +98,7 @@ pub fn put_u8(bytes: &mut [u8], front: usize, behind: usize, spot: Spot, v: u8)
     }
 }
 
-pub fn put_f64(floats: &mut [f64], front: usize, behind: usize, spot: Spot, v: f64)
+pub(crate) fn put_f64(floats: &mut [f64], front: usize, behind: usize, spot: Spot, v: f64)
     ensures { λ _. ⌜ PutIn front behind spot v (now (floats .entry)) (now (floats .exit)) ⌝ }
 {
     let to = spot.front;
@@ -108,7 +108,13 @@ pub fn put_f64(floats: &mut [f64], front: usize, behind: usize, spot: Spot, v: f
     }
 }
 
-pub fn put_point(points: &mut [[f64; 3]], front: usize, behind: usize, spot: Spot, v: [f64; 3])
+pub(crate) fn put_point(
+    points: &mut [[f64; 3]],
+    front: usize,
+    behind: usize,
+    spot: Spot,
+    v: [f64; 3],
+)
     ensures { λ _. ⌜ PutIn front behind spot v (now (points .entry)) (now (points .exit)) ⌝ }
 {
     let to = spot.front;

@@ -1,16 +1,20 @@
-// Lent slices with a gap, before which the next entry is put in: where an entry belongs, and the gap moved there.
+// Lent slices with a gap, before which the next entry is put in: where an entry belongs, and the gap moved there, in a whole slice or
+// in an area of it.
+mod areas;
 mod carrying;
 mod gaps;
 mod spots;
 
-pub use gaps::move_gap_f64;
-pub use gaps::move_gap_point;
-pub use gaps::move_gap_u8;
-pub use gaps::move_gap_u64;
-pub use gaps::put_f64;
-pub use gaps::put_point;
-pub use gaps::put_u8;
-pub use gaps::put_u64;
+pub use areas::Area;
+pub use areas::move_in_f64;
+pub use areas::move_in_point;
+pub use areas::move_in_u8;
+pub use areas::move_in_u64;
+pub use areas::put_in_f64;
+pub use areas::put_in_point;
+pub use areas::put_in_u8;
+pub use areas::put_in_u64;
+pub use areas::spot_in;
+pub use areas::spot_in_key;
+pub use areas::stand;
 pub use spots::Spot;
-pub use spots::spot_of;
-pub use spots::spot_of_key;

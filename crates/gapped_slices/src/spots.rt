@@ -112,7 +112,7 @@ fn spot_behind_key(keys: &[u64], key: u64) -> Spot
     halves_key(keys, i, keys.len(), key)
 }
 
-pub fn spot_of_key(keys: &[u64], front: usize, behind: usize, key: u64) -> Spot
+pub(crate) fn spot_of_key(keys: &[u64], front: usize, behind: usize, key: u64) -> Spot
     ensures { λ r. ⌜ (let k = now (keys .entry) in front + behind ≤ length k → Spotted ltb (closed front behind k) key r) ⌝ }
 {
     if !is_within(keys.len(), front, behind) {
@@ -233,7 +233,7 @@ fn spot_behind(keys: &[u64], names: &[u64], key: u64, name: u64) -> Spot
 }
 
 // Each slice has its own end.
-pub fn spot_of(
+pub(crate) fn spot_of(
     keys: &[u64],
     names: &[u64],
     front: usize,

@@ -1,15 +1,14 @@
 -- All three are stored, or none.
 use mathlib.Core.Path.{refl, sym, ap, _∙_}
 use mathlib.Core.Bool.{Bool, cond}
-use Prim.Native.Nat.{ℕ, _-_}
 use lib.ListN.{set}
 use borrow.Author.Tests.{not-true, not-false}
 use borrow.Author.Needs.{needs}
 use Rattle.building.proofs.atoms.replace_atom.Statement.{statement}
 use Rattle.building.proofs.atoms.replace_atom.Tie as tie
 
-is-outdone-requires : tie.Need-is-outdone-requires
-is-outdone-requires c κs = search needs
+is-less-at-requires : tie.Need-is-less-at-requires
+is-less-at-requires c κs = search needs
 
 same-length : tie.Need-same-length
 same-length c = refl
@@ -17,11 +16,8 @@ same-length c = refl
 returns : tie.Need-returns
 returns c =
     let a = c .before .before .before .before .before .args in
-    let e = sym (c .before .is-outdone .ensures) ∙ not-true _ (c .if1 .taken) in
-    (sym (ap (λ (t : Bool). cond t (set (a .elements .now) (a .spot .front - 1) (a .element)) (a .elements .now)) e), (sym (ap (λ (t : Bool). cond t (set (a .positions .now) (a .spot .front - 1) (a .position)) (a .positions .now)) e), sym (ap (λ (t : Bool). cond t (set (a .occupancies .now) (a .spot .front - 1) (a .occupancy)) (a .occupancies .now)) e)))
-
-rest-requires : tie.Need-rest-requires
-rest-requires c κs = search needs
+    let e = sym (c .before .is-less-at .ensures) ∙ not-true _ (c .if1 .taken) in
+    (sym (ap (λ (t : Bool). cond t (set (a .elements .now) (a .at) (a .element)) (a .elements .now)) e), (sym (ap (λ (t : Bool). cond t (set (a .positions .now) (a .at) (a .position)) (a .positions .now)) e), sym (ap (λ (t : Bool). cond t (set (a .occupancies .now) (a .at) (a .occupancy)) (a .occupancies .now)) e)))
 
 store-u8-requires : tie.Need-store-u8-requires
 store-u8-requires c κs = search needs
@@ -43,13 +39,12 @@ same-length-4 c = c .before .occupancies .given
 
 returns-2 : tie.Need-returns-2
 returns-2 c =
-    let a = c .before .before .before .before .before .before .before .before .before .before .before .before .before .before .before .before .before .args in
-    let e = sym (c .before .before .before .before .before .before .before .before .before .before .before .before .before .is-outdone .ensures) ∙ not-false _ (c .before .before .before .before .before .before .before .before .before .before .before .before .if1 .left) in
-    let last = c .before .before .before .before .before .before .before .before .before .before .before .rest .ensures in (
-      c .before .before .before .before .before .before .before .before .before .store-u8 .ensures ∙ ap (λ (i : ℕ). set (a .elements .now) i (a .element)) last ∙ sym (ap (λ (t : Bool). cond t (set (a .elements .now) (a .spot .front - 1) (a .element)) (a .elements .now)) e),
+    let a = c .before .before .before .before .before .before .before .before .before .before .before .before .before .before .before .before .args in
+    let e = sym (c .before .before .before .before .before .before .before .before .before .before .before .before .is-less-at .ensures) ∙ not-false _ (c .before .before .before .before .before .before .before .before .before .before .before .if1 .left) in (
+      c .before .before .before .before .before .before .before .before .before .store-u8 .ensures ∙ sym (ap (λ (t : Bool). cond t (set (a .elements .now) (a .at) (a .element)) (a .elements .now)) e),
       (
-        c .before .before .before .before .before .store-point .ensures ∙ ap (λ (i : ℕ). set (a .positions .now) i (a .position)) last ∙ sym (ap (λ (t : Bool). cond t (set (a .positions .now) (a .spot .front - 1) (a .position)) (a .positions .now)) e),
-        c .before .before .store-f64 .ensures ∙ ap (λ (i : ℕ). set (a .occupancies .now) i (a .occupancy)) last ∙ sym (ap (λ (t : Bool). cond t (set (a .occupancies .now) (a .spot .front - 1) (a .occupancy)) (a .occupancies .now)) e),
+        c .before .before .before .before .before .store-point .ensures ∙ sym (ap (λ (t : Bool). cond t (set (a .positions .now) (a .at) (a .position)) (a .positions .now)) e),
+        c .before .before .store-f64 .ensures ∙ sym (ap (λ (t : Bool). cond t (set (a .occupancies .now) (a .at) (a .occupancy)) (a .occupancies .now)) e),
       ),
     )
 
@@ -57,10 +52,9 @@ pub replace-atom-spec : {M : Type 1} → statement M
 replace-atom-spec =
     tie.close
     (tie.spec
-    is-outdone-requires
+    is-less-at-requires
     same-length
     returns
-    rest-requires
     store-u8-requires
     store-point-requires
     store-f64-requires

@@ -11,13 +11,14 @@ one-more-requires-2 c κs = search needs
 
 returns : tie.Need-returns
 returns c =
-    let h = c .before .before .before .before .args .held in
+    let h = c .before .before .before .before .before .args .held in
     let k = h .counts in
     let e = c .before .one-more .ensures in
     let f = c .one-more2 .ensures in
     λ i. record {
       counts = record { chains = k .chains; residues = k .residues; atoms = k .atoms; rows = e i; skipped = f i; outdone = k .outdone; assumed = k .assumed };
-      behind = h .behind;
+      residues = h .residues;
+      atoms = h .atoms;
     }
 
 pub skip-row-spec : {M : Type 1} → statement M
