@@ -5,6 +5,9 @@
  * and is not null, also where the length is 0; no two buffers overlap. The text is only read. Nothing else is read or
  * written, nothing is allocated, there is no global state, and nothing is kept after the call: calls with buffers of
  * their own may run at the same time. Both calls come back for all texts, lengths and contents of the buffers.
+ *
+ * No order of rows costs the square of the rows: besides a few walks over the text, a row moves at most some 2,000 records
+ * and most often none, and each 2,048 rows that come from far move all records three times at most.
  */
 #ifndef STRUCTURE_INTAKE_H
 #define STRUCTURE_INTAKE_H
