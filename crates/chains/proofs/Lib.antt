@@ -1,2 +1,3 @@
 pub mod NameLaws
 pub mod NamesInMemory
+pub mod PlaceLaws

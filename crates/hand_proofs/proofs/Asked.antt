@@ -32,3 +32,7 @@ asked-two 𝓤 H A W κ q P Q =
 module _ {M : Type 1} {𝓤 : URA M} {H : Heap 𝓤} {A : Atoms 𝓤} {K : Type 0} {W : Given 𝓤 H A} {Γ : List (Item 𝓤)} {G : Goal 𝓤 H} where
   pub counted : K → (n : ℕ) {vs : List Val} → Is usize n vs → Step K W (‵ (usize .own n vs) ∷ Γ) G Γ G
   counted t n {vs} is = owned t usize (Is usize) (uint-makes 𝓤 H A W w64) n vs is
+
+-- of parameters at one lifetime
+pub asked-at : {M : Type 1} (𝓤 : URA M) (H : Heap 𝓤) (A : Atoms 𝓤) → Given 𝓤 H A → (κ : Lft) (q : Share) (P : Fml) → ent 𝓤 (sep 𝓤 (A .lft κ q) (sem 𝓤 H A P)) (sep 𝓤 (sep 𝓤 (sep 𝓤 (A .lft κ q) (emp 𝓤)) (sem 𝓤 H A P)) (emp 𝓤))
+asked-at 𝓤 H A W κ q P = qed W (‵ (flft κ q) ∷ ‵ P ∷ []) ∵ nothing ! $ nothing ! $ move ! (2 ∷ 0 ∷ []) $ join ! $ move ! (0 ∷ 2 ∷ []) $ join ! $ done !

@@ -58,18 +58,28 @@ passed chains residueKeys residueNames residueCodes residueCategories residuePos
 
 -- ---- the room in them
 
--- the sizes of document 01, and no more than the shortest slice has
-unfoldable pub roomOf : Lent → Room
-roomOf l = record {
-  chains = min 4096 (length (l .chains));
-  residues =
-      min 65536
-      (min (length (l .residueKeys))
-      (min (length (l .residueNames)) (min (length (l .residueCodes)) (min (length (l .residueCategories)) (length (l .residuePositions))))));
-  atoms =
-      min 1048576
-      (min (length (l .atomKeys)) (min (length (l .atomNames)) (min (length (l .elements)) (min (length (l .positions)) (length (l .occupancies))))));
+-- the sizes of document 01, and no more than the shortest slice has: by the slices' lengths, and of the slices
+abbrev pub roomBy : ℕ → ℕ → ℕ → ℕ → ℕ → ℕ → ℕ → ℕ → ℕ → ℕ → ℕ → Room
+roomBy chains residueKeys residueNames residueCodes residueCategories residuePositions atomKeys atomNames elements positions occupancies = record {
+  chains = min 4096 chains;
+  residues = min 65536 (min residueKeys (min residueNames (min residueCodes (min residueCategories residuePositions))));
+  atoms = min 1048576 (min atomKeys (min atomNames (min elements (min positions occupancies))));
 }
+
+unfoldable pub roomOf : Lent → Room
+roomOf l =
+    roomBy
+    (length (l .chains))
+    (length (l .residueKeys))
+    (length (l .residueNames))
+    (length (l .residueCodes))
+    (length (l .residueCategories))
+    (length (l .residuePositions))
+    (length (l .atomKeys))
+    (length (l .atomNames))
+    (length (l .elements))
+    (length (l .positions))
+    (length (l .occupancies))
 
 -- no room, and no records
 abbrev pub noRecords : Room

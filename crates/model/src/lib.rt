@@ -19,6 +19,7 @@ pub use neighbours::position_between;
 pub use room::Lack;
 pub use room::Room;
 pub use room::no_records;
+pub use room::room_by;
 pub use room::room_of;
 pub use taken_out::Atom;
 pub use taken_out::Residue;

@@ -2,7 +2,6 @@ pub mod ArrayOfNames
 pub mod FrontLaws
 pub mod LentAs
 pub mod NamesStored
-pub mod ReadStored
 pub mod StoredIsHeld
 pub mod WithChains
 pub mod WriteTaken

@@ -1,35 +1,34 @@
--- One minimum for chains, of which there are as many as names, and for residues and atoms the least of the slices' lengths against the size.
+-- The lengths of the slices give it, and there are as many chains as names.
 use mathlib.Core.Path.{sym, ap, _∙_}
-use Prim.Native.Nat.{min}
+use Prim.Native.Nat.{ℕ}
 use borrow.Author.Needs.{needs}
-use Rattle.model.specs.Lent.{roomOf}
+use lib.ListN.{length}
+use Rattle.model.specs.declared.room.Room.{Room}
+use Rattle.model.specs.Lent.{roomBy, roomOf}
 use Rattle.model.proofs.room.room_of.Statement.{statement}
 use Rattle.model.proofs.room.room_of.Tie as tie
 
-smallest-requires : tie.Need-smallest-requires
-smallest-requires c κs = search needs
-
-smallest-requires-2 : tie.Need-smallest-requires-2
-smallest-requires-2 c κs = search needs
-
-smaller-requires : tie.Need-smaller-requires
-smaller-requires c κs = search needs
-
-smaller-requires-2 : tie.Need-smaller-requires-2
-smaller-requires-2 c κs = search needs
-
-smaller-requires-3 : tie.Need-smaller-requires-3
-smaller-requires-3 c κs = search needs
+room-by-requires : tie.Need-room-by-requires
+room-by-requires c κs = search needs
 
 returns : tie.Need-returns
 unfolding roomOf
 returns c =
-    let p = c .before .before .before in
-    let residues = c .before .smaller2 .ensures ∙ ap (min 65536) (p .before .smallest .ensures) in
-    let atoms = c .smaller3 .ensures ∙ ap (min 1048576) (p .smallest2 .ensures) in
-    λ names many.
-    let chains = c .before .before .smaller .ensures ∙ ap (min 4096) (sym many) in
-    λ i. record { chains = chains i; residues = residues i; atoms = atoms i }
+    let a = c .before .before .before .before .before .before .before .before .before .before .args in
+    let room : ℕ → Room = λ n.
+    roomBy
+    n
+    (length (a .residue-keys .now))
+    (length (a .residue-names .now))
+    (length (a .residue-codes .now))
+    (length (a .residue-categories .now))
+    (length (a .residue-positions .now))
+    (length (a .atom-keys .now))
+    (length (a .atom-names .now))
+    (length (a .elements .now))
+    (length (a .positions .now))
+    (length (a .occupancies .now)) in
+    λ names many. c .room-by .ensures ∙ ap room (sym many)
 
 pub room-of-spec : {M : Type 1} → statement M
-room-of-spec = tie.close (tie.spec smallest-requires smallest-requires-2 smaller-requires smaller-requires-2 smaller-requires-3 returns)
+room-of-spec = tie.close (tie.spec room-by-requires returns)
