@@ -51,7 +51,6 @@ use Rattle.field_slices.proofs.ClearingLaws.{Clearing, clearing-starts, clearin
 use Rattle.field_slices.proofs.MapLaws.{map-cleared}
 use Rattle.hand_proofs.proofs.CountedLoop.{word}
 use Rattle.hand_proofs.proofs.GivenUp.{gave-all, gave-ends, gave-meets}
-use Rattle.hand_proofs.proofs.Handed.{hands}
 use Rattle.hand_proofs.proofs.Locals.{Local, empty, holding, locals, all-go}
 use Rattle.hand_proofs.proofs.SliceCount.{takes-count}
 use Rattle.hand_proofs.proofs.SliceTells.{slice-tells}

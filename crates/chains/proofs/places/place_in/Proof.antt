@@ -1,6 +1,6 @@
 -- `chains::place_in` meets its contract: a walk of its MIR, by hand. The borrow of the records is opened once, before the search, and closed once, after the store. In a turn record i's name is read, and `end_at` says where the search ends.
 -- All that the proof knows of `smaller` and `end_at` is that each meets its contract.
-use mathlib.Core.Path.{_≡_, refl, sym, _∙_, ap, subst}
+use mathlib.Core.Path.{_≡_, refl, sym, _∙_, ap}
 use mathlib.Core.Bool.{false}
 use mathlib.Core.WellFounded.{WellFounded, InvImage·wf}
 use Prim.Native.Nat.{ℕ, _+_, _*_, _-_, _≤_, _<_, _^_, min}
@@ -29,7 +29,6 @@ use borrow.Author.Tests.{ltb-true, ltb-false}
 use types.Kit.{Given, Item, ‵, raw, _⊛_, ⋆, _$_, _∵_, !, qed, by, step, move, keep, drop, use1, use2, split, join, rewrite, fsplit, fjoin, fjoin3, feqI, suffices, frame, done}
 use types.Part.{agg, whole, sub, look-in}
 use types.Run.{look, store, store-raw, init, forget, stop, hop, fld, from, load, lit, of-opd, bin, no-more, skips, assigns, assigns-last, land, returns, enter, alloc1, alloc0, params1, pass1, pass0}
-use denote.Builtin.{u64}
 use denote.Index.{place-is, row, elem-out, elem-back, elem-put, opens-slice, closes-slice}
 use denote.Laws.{Is, Ises, Spells, valss, Tellss, shows}
 use denote.Lend.{Held}
