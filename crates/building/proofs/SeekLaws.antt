@@ -1,7 +1,7 @@
 -- A look in main, and where it finds nothing one in the pocket, says where a key is: by the places in both, in any order.
 use mathlib.Core.Path.{_≡_, refl, sym, ap, _∙_, subst}
 use mathlib.Core.Bool.{Bool, true, false, false≢true}
-use mathlib.Core.List.{List}
+use mathlib.Core.List.{List, [], _∷_}
 use Prim.Native.Nat.{ℕ, suc, _-_, _<_}
 use native.Mathlib.Omega.{arith}
 use lib.ListN.{length}
@@ -19,10 +19,15 @@ use Rattle.gapped_slices.specs.declared.spots.Spot.{Spot}
 use Rattle.building.specs.declared.seeking.Sought.{Sought}
 use Rattle.building.specs.declared.stores.Store.{Store}
 use Rattle.building.specs.Stores.{soughtBy, Seeks}
+use Rattle.building.proofs.AreaFields.{none-in}
 
 -- two fields of the entries of an area, side by side
 pub length-both : (a : Area) (keys names : List ℕ) → Lies a (length keys) → Lies a (length names) → length (pairs (entriesIn a keys) (entriesIn a names)) ≡ many a
 length-both a keys names l k = length-pairs (entriesIn a keys) (entriesIn a names) ∙ omega (arith, length-entries a keys l, length-entries a names k)
+
+pub none-of-both : (a : Area) (keys names : List ℕ) → many a ≡ 0 → pairs (entriesIn a keys) (entriesIn a names) ≡ []
+unfolding pairs
+none-of-both a keys names none = ap (λ (l : List ℕ). pairs l (entriesIn a names)) (none-in a keys none)
 
 -- the index of a spot that was there, and of one that is new
 there-at : (p : Place) (s : Spot) → s ≡ spotOf p → s .new ≡ false → p ≡ At (s .front - 1)
@@ -57,3 +62,10 @@ module _ {A : Type 0} {less : A → A → Bool} (o : Order less) (d c : A) (main
       let p = new-at (placeIn less c main) spot (f .place up) n in
       let q = new-at (placeIn less c pocket) other (g .place down) m in
       sym (λ i. soughtBy s (p i) (q i))
+
+  -- no look in an empty pocket
+  pub none-in-pocket : (spot : Spot) → Spotted less main c spot → spot .new ≡ true → pocket ≡ [] → Seeks less main pocket c s (record { new = true; at = spot .front })
+  unfolding placeIn
+  none-in-pocket spot f n none up down =
+      let p = new-at (placeIn less c main) spot (f .place up) n in
+      sym (λ i. soughtBy s (p i) (placeIn less c (none i)))

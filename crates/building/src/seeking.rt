@@ -1,6 +1,8 @@
-// Where a record is that was met before, or its index in main where it is new: a look in main, and where it is not there in the pocket.
+// Where a record is that was met before, or its index in main where it is new: a look in main, and where it is not there in the pocket, which
+// is nearly always empty.
 use crate::held::rest;
 use crate::stores::Store;
+use crate::stores::entries_of;
 use gapped_slices::spot_in;
 use gapped_slices::spot_in_key;
 use gapped_slices::stand;
@@ -30,6 +32,12 @@ pub(crate) fn seek_residue(keys: &[u64], store: Store, key: u64) -> Sought
             at: stand(main, rest(spot.front, 1)),
         };
     }
+    if entries_of(pocket) == 0 {
+        return Sought {
+            new: true,
+            at: spot.front,
+        };
+    }
     let other = spot_in_key(keys, pocket, key);
     if !other.new {
         return Sought {
@@ -55,6 +63,12 @@ pub(crate) fn seek_atom(keys: &[u64], names: &[u64], store: Store, key: u64, nam
         return Sought {
             new: false,
             at: stand(main, rest(spot.front, 1)),
+        };
+    }
+    if entries_of(pocket) == 0 {
+        return Sought {
+            new: true,
+            at: spot.front,
         };
     }
     let other = spot_in(keys, names, pocket, key, name);
