@@ -101,6 +101,9 @@ struct structure_intake_chain {
  * slices to their ends. How many there are, the names tell: those of the model are not zero, and those past it are. After
  * a refusal every record is zero. After 26 the records too are as they were.
  *
+ * So each call clears all that it is lent: the greatest records have 53 MB, which take a small text several milliseconds.
+ * Lend what the text can need: a row has at least 14 bytes, and brings at most one chain, one residue and one atom.
+ *
  *  slice               entry       holds
  *  chains              a record    the chain's name, packed
  *  residue_keys        uint64_t    chain's place from 0 * 2^40 + (sequence + 2^31) * 2^8 + insertion code, 0 for none
