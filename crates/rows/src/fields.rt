@@ -8,13 +8,16 @@ use tokens::LONGEST;
 use tokens::Part;
 ghost use mathlib.Core.Path.{_≡_};
 ghost use mathlib.Core.List.{List};
-ghost use Prim.Native.Nat.{ℕ, _≤_, _<_};
+ghost use Prim.Native.Nat.{ℕ, _≤_, _<_, min};
 ghost use lib.ListN.{length, take};
 ghost use Rattle.tokens.specs.Longest.{longest};
 ghost use Rattle.tokens.specs.Split.{tokenIn, IsPart};
 ghost use Rattle.tokens.specs.Tokens.{tokenAt};
 ghost use Rattle.token_values.specs.Sequence.{sequenceOf};
 ghost use Rattle.rows.specs.Fields.{nameOf, chainOf, insertionCodeOf, measureOf, InCell, hetatmAt, insertionCodeAt, occupancyAt, elementAt, labelsOf, numbersOf, joinedOf, fieldsOf};
+
+// Nearly every row is a line of at most so many bytes, for which less has to be cleared than for the longest.
+const SHORT: usize = 128;
 
 // Whether the row has all the columns that it must have, and reaches them.
 pub enum Reach {
@@ -256,23 +259,42 @@ fn fields_in(columns: Columns, cell: &[u8], places: &[usize], n: usize) -> Field
     joined(reach, hetatm, labels, numbers, element)
 }
 
-// The line is walked once, however many of its columns are needed.
+// The line is walked once, however many of its columns are needed. It has no more tokens than bytes, and no column is 256 or more.
 fn fields_by(columns: Columns, line: &[u8], cell: &mut [u8], places: &mut [usize]) -> Fields
-    requires { ⌜ (length (now line) ≤ length (now cell)) × (256 < length (now places)) ⌝ }
+    requires { ⌜ (length (now line) ≤ length (now cell)) × (min 256 (length (now line)) < length (now places)) ⌝ }
     ensures { λ r. ⌜ r ≡ fieldsOf columns (now (line .entry)) ⌝ }
 {
     let n = tokens::split_mmcif_line(line, cell, places);
     fields_in(columns, cell, places, n)
 }
 
+fn fields_of_short(columns: Columns, line: &[u8]) -> Fields
+    requires { ⌜ length (now line) ≤ 128 ⌝ }
+    ensures { λ r. ⌜ r ≡ fieldsOf columns (now (line .entry)) ⌝ }
+{
+    let mut cell = [0u8; SHORT];
+    let mut places = [0usize; 129];
+    fields_by(columns, line, &mut cell, &mut places)
+}
+
+fn fields_of_long(columns: Columns, line: &[u8]) -> Fields
+    requires { ⌜ length (now line) ≤ longest ⌝ }
+    ensures { λ r. ⌜ r ≡ fieldsOf columns (now (line .entry)) ⌝ }
+{
+    let mut cell = [0u8; LONGEST];
+    let mut places = [0usize; 257];
+    fields_by(columns, line, &mut cell, &mut places)
+}
+
 // The fields of a line; of one longer than 2,048 bytes, those of its first 2,048.
 pub fn fields_of(columns: Columns, line: &[u8]) -> Fields
     ensures { λ r. ⌜ r ≡ fieldsOf columns (take longest (now (line .entry))) ⌝ }
 {
-    let mut cell = [0u8; LONGEST];
-    let mut places = [0usize; 257];
-    if line.len() <= LONGEST {
-        return fields_by(columns, line, &mut cell, &mut places);
+    if line.len() <= SHORT {
+        return fields_of_short(columns, line);
     }
-    fields_by(columns, &line[0..LONGEST], &mut cell, &mut places)
+    if line.len() <= LONGEST {
+        return fields_of_long(columns, line);
+    }
+    fields_of_long(columns, &line[0..LONGEST])
 }

@@ -1,7 +1,6 @@
 -- The cell and the places are long enough, so that the tokens stand in the cell.
-use native.Mathlib.Omega.{arith}
 use borrow.Author.Needs.{needs}
-use Rattle.tokens.proofs.TokensStandInTheCell.{token-stands}
+use Rattle.rows.proofs.CellLaws.{in-room}
 use Rattle.rows.proofs.fields.fields_by.Statement.{statement}
 use Rattle.rows.proofs.fields.fields_by.Tie as tie
 
@@ -25,7 +24,7 @@ returns c =
     c .fields-in .ensures (a .line .now)
     (record {
       many = split .ensures .0;
-      tokens = λ k h. rw (split .ensures .0, split .ensures .1 .0, split .ensures .1 .1) (token-stands (a .line .now) (a .cell .now) (a .places .now) k (start .pre .0) (omega (arith, h, start .pre .1)));
+      tokens = λ k h. rw (split .ensures .0, split .ensures .1 .0, split .ensures .1 .1) (in-room (a .line .now) (a .cell .now) (a .places .now) (start .pre .0) (start .pre .1) k h);
     })
 
 pub fields-by-spec : {M : Type 1} → statement M
