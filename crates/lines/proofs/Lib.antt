@@ -3,5 +3,6 @@ pub mod FirstOutside
 pub mod LineLaws
 pub mod LinesAreText
 pub mod LinesFitTheText
+pub mod MarkLaws
 pub mod NoneOutside
 pub mod OneLine

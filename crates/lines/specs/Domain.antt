@@ -29,6 +29,12 @@ outsideFrom line (b ∷ bs) = cond (isAllowed b (first bs)) (outsideFrom (lineAf
 abbrev pub outsideOf : List ℕ → Outside
 outsideOf text = outsideFrom 1 text
 
+-- ---- how it is found
+
 -- the line after b, and 0 where b may not stand there
 abbrev pub lineBehind : ℕ → ℕ → ℕ → ℕ
 lineBehind line b next = cond (isAllowed b next) (lineAfter line b) 0
+
+-- b may stand in a text whatever is after it
+abbrev pub standsAnywhere : ℕ → Bool
+standsAnywhere b = isTextByte b || eqb b 10
