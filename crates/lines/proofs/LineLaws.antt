@@ -1,7 +1,7 @@
 -- The first line of a text stands before the first 10, without a 13 directly before it; where no 10 is, the whole text is one line.
 use mathlib.Core.Path.{_≡_, refl, sym, ap, subst, _∙_}
 use mathlib.Core.List.{List, [], _∷_}
-use mathlib.Core.Bool.{Bool, true, false, _&&_, cond}
+use mathlib.Core.Bool.{Bool, true, false, _&&_, not, cond, false≢true}
 use Prim.Native.Nat.{ℕ, zero, suc, _+_, _-_, _≤_, _<_}
 use native.Mathlib.Numerals.{add-one}
 use native.Mathlib.Omega.{arith}
@@ -10,9 +10,10 @@ use lib.ListN.{length, getD, take, drop, length-drop}
 use lib.Seq.{length-take-le, drop-cons, drop-length, drop-drop, getD-drop}
 use borrow.Author.Tests.{eq-eqb, ne-eqb, eqb-true}
 use Rattle.ascii.specs.Bytes.{first}
+use Rattle.ascii.specs.Lists.{every}
 use Rattle.ascii.proofs.ListLaws.{getD-past, tail-is}
 use Rattle.lines.specs.declared.lines.Line.{Line}
-use Rattle.lines.specs.Lines.{onto, linesOf, endingAt, LineAt, feedPlace, lineLength}
+use Rattle.lines.specs.Lines.{onto, linesOf, endingAt, LineAt, isNoFeed, feedPlace, NoFeedBefore, lineLength}
 
 -- ---- the place of the first 10
 module _ (text : List ℕ) (i : ℕ) where
@@ -29,6 +30,25 @@ module _ (text : List ℕ) (i : ℕ) where
   pub feed-none : i ≡ length text → feedPlace (drop i text) ≡ 0
   unfolding feedPlace
   feed-none e = rw (e, drop-length)
+
+-- bytes with no 10 among them are passed together
+past-no-feed : (n : ℕ) (text : List ℕ) → n ≤ length text → every isNoFeed (take n text) ≡ true → feedPlace text ≡ n + feedPlace (drop n text)
+unfolding feedPlace
+past-no-feed zero text h e = omega arith
+past-no-feed (suc n) [] h e = absurd (omega arith)
+past-no-feed (suc n) (b ∷ bs) h e = go (eqb b 10) e (past-no-feed n bs (omega arith))
+  where
+    go :
+        (t : Bool) → (not t && every isNoFeed (take n bs)) ≡ true → (every isNoFeed (take n bs) ≡ true → feedPlace bs ≡ n + feedPlace (drop n bs))
+        → cond t 0 (suc (feedPlace bs)) ≡ suc n + feedPlace (drop n bs)
+    go true e further = absurd (false≢true e)
+    go false e further = let on = further e in omega arith
+
+pub feed-past : (text : List ℕ) (i n : ℕ) → i + n ≤ length text → every isNoFeed (take n (drop i text)) ≡ true → NoFeedBefore text i → NoFeedBefore text (i + n)
+feed-past text i n h e before = (h, before .1 ∙ ap (λ (k : ℕ). i + k) (past-no-feed n (drop i text) (omega (arith, length-drop i text)) e) ∙ on)
+  where
+    on : i + (n + feedPlace (drop n (drop i text))) ≡ i + n + feedPlace (drop (i + n) text)
+    on = rw (drop-drop n i text) (omega arith)
 
 feed-is : (text : List ℕ) → feedPlace text < length text → getD text (feedPlace text) 0 ≡ 10
 unfolding feedPlace

@@ -1,7 +1,7 @@
 -- The lines of a text: each ends at 10 or at 13 10, and the last one needs no ending.
 use mathlib.Core.Path.{_≡_}
 use Prim.Native.Nat.{ℕ, zero, suc, _+_, _-_, _≤_, _<_}
-use mathlib.Core.Bool.{cond, _&&_}
+use mathlib.Core.Bool.{Bool, cond, not, _&&_}
 use mathlib.Core.List.{List, [], _∷_}
 use lib.Dec.{eqb}
 use lib.ListN.{length, getD, take, drop}
@@ -47,6 +47,13 @@ pub record LineOrEnd (text : List ℕ) (from : ℕ) (r : Line) : Type 0 where
 unfoldable pub feedPlace : List ℕ → ℕ
 feedPlace [] = 0
 feedPlace (b ∷ bs) = cond (eqb b 10) 0 (suc (feedPlace bs))
+
+abbrev pub isNoFeed : ℕ → Bool
+isNoFeed b = not (eqb b 10)
+
+-- the first i bytes are in the text, and no 10 is among them
+abbrev pub NoFeedBefore : List ℕ → ℕ → Type 0
+NoFeedBefore text i = (i ≤ length text) × (feedPlace text ≡ i + feedPlace (drop i text))
 
 -- the length of the line before the 10 at this place: a 13 directly before the 10 belongs to the ending
 abbrev pub lineLength : List ℕ → ℕ → ℕ

@@ -1,8 +1,10 @@
 // The lines of a text, each a part of it: where a line ends, and where the next one begins.
 ghost use mathlib.Core.Path.{_≡_};
 ghost use Prim.Native.Nat.{_<_};
+ghost use mathlib.Core.Bool.{cond};
 ghost use lib.ListN.{length};
-ghost use Rattle.lines.specs.Lines.{feedPlace, lineLength, LineOrEnd};
+ghost use Rattle.ascii.specs.Lists.{every};
+ghost use Rattle.lines.specs.Lines.{isNoFeed, feedPlace, NoFeedBefore, lineLength, LineOrEnd};
 
 // A line is the bytes before `end`; the next line begins at `next`.
 pub struct Line {
@@ -10,12 +12,56 @@ pub struct Line {
     pub next: usize,
 }
 
+// 1 for a 10, else 0.
+fn feed_mark(b: u8) -> u8
+    ensures { λ r. ⌜ r ≡ cond (isNoFeed b) 0 1 ⌝ }
+{
+    if b == b'\n' {
+        return 1;
+    }
+    0
+}
+
+// So many bytes are compared at once, by the greatest of their marks, as in `none_odd`.
+const BLOCK: usize = 16;
+
+// Whether there is no 10 in a block.
+fn has_no_feed(block: &[u8]) -> bool
+    requires { ⌜ length (now block) ≡ 16 ⌝ }
+    ensures { λ r. ⌜ r ≡ every isNoFeed (now (block .entry)) ⌝ }
+{
+    let mut most: u8 = 0;
+    let mut i = 0;
+    while i < BLOCK {
+        let mark = feed_mark(block[i]);
+        if most < mark {
+            most = mark;
+        }
+        i += 1;
+    }
+    most == 0
+}
+
+// The end of the blocks that a text begins with and that have no 10.
+fn past_blocks(text: &[u8]) -> usize
+    ensures { λ r. ⌜ NoFeedBefore (now (text .entry)) r ⌝ }
+{
+    let mut i = 0;
+    while BLOCK <= text.len() - i {
+        if !has_no_feed(&text[i..i + BLOCK]) {
+            return i;
+        }
+        i += BLOCK;
+    }
+    i
+}
+
 // How many bytes stand before the first 10, all where there is none. Every byte of a text passes here, so nothing else
-// is asked of it.
+// is asked of it, and most are passed in blocks.
 fn feed_place(text: &[u8]) -> usize
     ensures { λ r. ⌜ r ≡ feedPlace (now (text .entry)) ⌝ }
 {
-    let mut i = 0;
+    let mut i = past_blocks(text);
     while i < text.len() {
         if text[i] == b'\n' {
             return i;
