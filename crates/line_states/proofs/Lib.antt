@@ -1,2 +1,5 @@
+pub mod FirstByte
 pub mod FirstToken
 pub mod HeadersFit
+pub mod LongTokens
+pub mod TokenInCell

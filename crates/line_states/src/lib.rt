@@ -1,4 +1,5 @@
 // What each line does to the state that a reader is in: loops opened, headers recorded, rows told from other lines.
+mod blanks;
 mod heads;
 mod reading;
 

@@ -1,4 +1,5 @@
 // What a line does, by its first token and the state.
+use crate::blanks::past_blanks;
 use crate::heads::Heads;
 use crate::heads::State;
 use crate::heads::in_state;
@@ -6,13 +7,15 @@ use crate::heads::no_heads;
 use crate::heads::with_header;
 use tokens::LONGEST;
 ghost use mathlib.Core.Path.{_≡_};
-ghost use Prim.Native.Nat.{_≤_};
-ghost use lib.ListN.{length, take};
+ghost use lib.ListN.{take};
 ghost use Rattle.tokens.specs.Longest.{longest};
 ghost use Rattle.line_states.specs.States.{recordedOf, itemIn, firstRow, otherIn, movedByToken, movedBy};
 
 // At most so many headers in a loop.
 const HEADERS: usize = 64;
+
+// More bytes than any word that is asked for has.
+const CELL: usize = 32;
 
 pub enum Does {
     Nothing,
@@ -90,25 +93,45 @@ fn read_token(heads: Heads, token: &[u8]) -> Moved
     other_in(heads)
 }
 
-// No token is empty, so a line has a first token exactly where one of some length is found.
-fn read_within(heads: Heads, line: &[u8], cell: &mut [u8]) -> Moved
-    requires { ⌜ length (now line) ≤ length (now cell) ⌝ }
+// A line by its first token, copied to a cell. No token is empty, so there is one exactly where one of some length is found; no word that
+// is asked for is as long as the cell, so of a longer token the first bytes decide.
+fn read_by_token(heads: Heads, line: &[u8]) -> Moved
     ensures { λ r. ⌜ r ≡ movedBy heads (now (line .entry)) ⌝ }
 {
-    let n = tokens::tokenize_mmcif_line(line, 0, cell);
+    let mut cell = [0u8; CELL];
+    let n = tokens::tokenize_mmcif_line(line, 0, &mut cell);
     if n == 0 {
         return moved_to(heads, Does::Nothing);
     }
-    read_token(heads, &cell[0..n])
+    if n < CELL {
+        return read_token(heads, &cell[0..n]);
+    }
+    read_token(heads, &cell)
+}
+
+// A line by its first byte that is no blank, so that rows are told without their first token. An item begins `_`, `loop_` begins `l`, and
+// behind a quote either may stand.
+fn read_by_byte(heads: Heads, line: &[u8]) -> Moved
+    ensures { λ r. ⌜ r ≡ movedBy heads (now (line .entry)) ⌝ }
+{
+    let i = past_blanks(line);
+    if line.len() <= i {
+        return moved_to(heads, Does::Nothing);
+    }
+    let b = line[i];
+    match b {
+        b'#' => moved_to(heads, Does::Nothing),
+        b'_' | b'l' | b'"' | b'\'' => read_by_token(heads, line),
+        _ => other_in(heads),
+    }
 }
 
 // What a line does; one longer than 2,048 bytes does what its first 2,048 do.
 pub fn read_line(heads: Heads, line: &[u8]) -> Moved
     ensures { λ r. ⌜ r ≡ movedBy heads (take longest (now (line .entry))) ⌝ }
 {
-    let mut cell = [0u8; LONGEST];
     if line.len() <= LONGEST {
-        return read_within(heads, line, &mut cell);
+        return read_by_byte(heads, line);
     }
-    read_within(heads, &line[0..LONGEST], &mut cell)
+    read_by_byte(heads, &line[0..LONGEST])
 }

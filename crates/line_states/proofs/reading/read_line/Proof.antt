@@ -7,31 +7,25 @@ use Rattle.line_states.specs.States.{movedBy}
 use Rattle.line_states.proofs.reading.read_line.Statement.{statement}
 use Rattle.line_states.proofs.reading.read_line.Tie as tie
 
-slice-aggregate-read-within : tie.Need-slice-aggregate-read-within
-slice-aggregate-read-within c = search needs
-
-read-within-requires : tie.Need-read-within-requires
-read-within-requires c κs = search needs
+read-by-byte-requires : tie.Need-read-by-byte-requires
+read-by-byte-requires c κs = search needs
 
 returns : tie.Need-returns
 returns c =
-    let a = c .before .before .before .before .before .args in
-    c .before .read-within .ensures ∙ ap (movedBy (a .heads)) (sym (take-all longest (a .line .now) (c .before .before .before .if1 .taken)))
+    let a = c .before .before .before .args in
+    c .read-by-byte .ensures ∙ ap (movedBy (a .heads)) (sym (take-all longest (a .line .now) (c .before .if1 .taken)))
 
-sub-read-within : tie.Need-sub-read-within
-sub-read-within c = search needs
+sub-read-by-byte : tie.Need-sub-read-by-byte
+sub-read-by-byte c = search needs
 
-part-read-within-start : tie.Need-part-read-within-start
-part-read-within-start c = search needs
+part-read-by-byte-start : tie.Need-part-read-by-byte-start
+part-read-by-byte-start c = search needs
 
-part-read-within-end : tie.Need-part-read-within-end
-part-read-within-end c = search needs
+part-read-by-byte-end : tie.Need-part-read-by-byte-end
+part-read-by-byte-end c = search needs
 
-slice-aggregate-read-within-2 : tie.Need-slice-aggregate-read-within-2
-slice-aggregate-read-within-2 c = search needs
-
-read-within-requires-2 : tie.Need-read-within-requires-2
-read-within-requires-2 c κs = search needs
+read-by-byte-requires-2 : tie.Need-read-by-byte-requires-2
+read-by-byte-requires-2 c κs = search needs
 
 returns-2 : tie.Need-returns-2
 returns-2 c = search needs
@@ -40,12 +34,10 @@ pub read-line-spec : {M : Type 1} → statement M
 read-line-spec =
     tie.close
     (tie.spec
-    slice-aggregate-read-within
-    read-within-requires
+    read-by-byte-requires
     returns
-    sub-read-within
-    part-read-within-start
-    part-read-within-end
-    slice-aggregate-read-within-2
-    read-within-requires-2
+    sub-read-by-byte
+    part-read-by-byte-start
+    part-read-by-byte-end
+    read-by-byte-requires-2
     returns-2)
