@@ -1,6 +1,7 @@
 pub mod CellTurns
 pub mod CodesAreInverse
 pub mod ElementsAtMost118
+pub mod MatchArms
 pub mod PackingIsOneToOne
 pub mod PackingKeepsOrder
 pub mod PackingTurns

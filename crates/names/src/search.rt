@@ -18,17 +18,3 @@ pub(crate) fn place_in_order(names: &[u64], name: u64) -> Place
         field_slices::Place::Before(_) => Place::Nowhere,
     }
 }
-
-// In a list in any order, one after the other.
-pub(crate) fn place_of(names: &[u64], name: u64) -> Place
-    ensures { λ r. ⌜ r ≡ placeOf name (now (names .entry)) ⌝ }
-{
-    let mut i = 0;
-    while i < names.len() {
-        if names[i] == name {
-            return Place::At(i);
-        }
-        i += 1;
-    }
-    Place::Nowhere
-}
