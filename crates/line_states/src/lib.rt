@@ -1,5 +1,4 @@
 // What each line does to the state that a reader is in: loops opened, headers recorded, rows told from other lines.
-mod blanks;
 mod heads;
 mod reading;
 

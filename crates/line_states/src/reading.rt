@@ -1,5 +1,4 @@
 // What a line does, by its first token and the state.
-use crate::blanks::past_blanks;
 use crate::heads::Heads;
 use crate::heads::State;
 use crate::heads::in_state;
@@ -114,7 +113,7 @@ fn read_by_token(heads: Heads, line: &[u8]) -> Moved
 fn read_by_byte(heads: Heads, line: &[u8]) -> Moved
     ensures { λ r. ⌜ r ≡ movedBy heads (now (line .entry)) ⌝ }
 {
-    let i = past_blanks(line);
+    let i = tokens::trim_start(line);
     if line.len() <= i {
         return moved_to(heads, Does::Nothing);
     }

@@ -14,3 +14,4 @@ pub use split::Part;
 pub use split::part_of;
 pub use split::split_mmcif_line;
 pub use tokenize::tokenize_mmcif_line;
+pub use trim::trim_start;

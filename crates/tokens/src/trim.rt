@@ -6,7 +6,7 @@ ghost use lib.ListN.{length, take, drop};
 ghost use Rattle.tokens.specs.Trim.{trimStart, trimEnd, contentOf};
 
 // The place of the first byte that is no blank, or the end.
-pub(crate) fn trim_start(line: &[u8]) -> usize
+pub fn trim_start(line: &[u8]) -> usize
     ensures { λ r. ⌜ (r ≤ length (now (line .entry))) × (drop r (now (line .entry)) ≡ trimStart (now (line .entry))) ⌝ }
 {
     let mut i = 0;

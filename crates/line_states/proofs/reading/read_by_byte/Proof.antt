@@ -13,8 +13,8 @@ use Rattle.line_states.proofs.FirstToken.{nothing-moves, other-moves}
 use Rattle.line_states.proofs.reading.read_by_byte.Statement.{statement}
 use Rattle.line_states.proofs.reading.read_by_byte.Tie as tie
 
-past-blanks-requires : tie.Need-past-blanks-requires
-past-blanks-requires c κs = search needs
+trim-start-requires : tie.Need-trim-start-requires
+trim-start-requires c κs = search needs
 
 moved-to-requires : tie.Need-moved-to-requires
 moved-to-requires c κs = search needs
@@ -24,7 +24,7 @@ returns c =
     let a = c .before .before .before .before .args in
     let line = a .line .now in
     c .moved-to .ensures
-    ∙ sym (nothing-moves (a .heads) line (no-byte line (sym (c .before .before .past-blanks .ensures .1) ∙ drop-of-length-le line (c .before .if1 .taken))))
+    ∙ sym (nothing-moves (a .heads) line (no-byte line (sym (c .before .before .trim-start .ensures .1) ∙ drop-of-length-le line (c .before .if1 .taken))))
 
 shared-slice-read-b : tie.Need-shared-slice-read-b
 shared-slice-read-b c = search needs
@@ -40,18 +40,18 @@ other-in-requires c κs = search needs
 
 -- what is left of the line begins with the byte
 begins :
-    (c : tie.After-shared-slice-known2) → let line = c .before .before .before .before .args .line .now in let i = c .before .before .past-blanks .result in
+    (c : tie.After-shared-slice-known2) → let line = c .before .before .before .before .args .line .now in let i = c .before .before .trim-start .result in
     trimStart line ≡ getD line i 0 ∷ drop (suc i) line
 begins c =
     let line = c .before .before .before .before .args .line .now in
-    let i = c .before .before .past-blanks in
+    let i = c .before .before .trim-start in
     sym (i .ensures .1) ∙ drop-cons line (i .result) 0 (omega arith)
 
 returns-2 : tie.Need-returns-2
 returns-2 c =
     let a = c .before .before .before .before .before .before .args in
     let line = a .line .now in
-    let i = c .before .before .before .before .past-blanks .result in
+    let i = c .before .before .before .before .trim-start .result in
     c .moved-to2 .ensures
     ∙ sym (nothing-moves (a .heads) line (comment line (getD line i 0) (drop (suc i) line) (begins (c .before .before)) (c .before .match .keys1)))
 
@@ -62,7 +62,7 @@ returns-4 : tie.Need-returns-4
 returns-4 c =
     let a = c .before .before .before .before .before .before .args in
     let line = a .line .now in
-    let i = c .before .before .before .before .past-blanks .result in
+    let i = c .before .before .before .before .trim-start .result in
     let b = getD line i 0 in
     let n = c .before .match .rest in
     c .other-in .ensures
@@ -74,7 +74,7 @@ pub read-by-byte-spec : {M : Type 1} → statement M
 read-by-byte-spec =
     tie.close
     (tie.spec
-    past-blanks-requires
+    trim-start-requires
     moved-to-requires
     returns
     shared-slice-read-b
