@@ -108,22 +108,26 @@ pub text-parts : (places : ℕ) (negative : Bool) (n p c : ℕ) → p ≡ 10 ^ p
 unfolding fixedText
 text-parts places negative n p c P C = rw (C, P)
 
-pub text-length : (places : ℕ) (negative : Bool) (n p s c : ℕ) → p ≡ 10 ^ places → s ≡ length (sign negative) → c ≡ digitCount (n / p)
-    → s + c + 1 + places ≡ length (fixedText places negative n)
-text-length places negative n p s c P S C =
-    let S′ = sign negative in
+pub text-length : (places : ℕ) (negative : Bool) (n p c : ℕ) → p ≡ 10 ^ places → c ≡ digitCount (n / p)
+    → length (sign negative) + c + 1 + places ≡ length (fixedText places negative n)
+text-length places negative n p c P C =
+    let S = sign negative in
     let W = lastDigits c (n / p) in
     let F = lastDigits places n in
     sym (ap length (text-parts places negative n p c P C)
-    ∙ length-append S′ (W ++ (46 ∷ F))
-    ∙ ap (λ (k : ℕ). length S′ + k) (length-append W (46 ∷ F))
-    ∙ ap (λ (k : ℕ). length S′ + (k + suc (length F))) (digits-length c (n / p))
-    ∙ ap (λ (k : ℕ). length S′ + (c + suc k)) (digits-length places n)
-    ∙ ap (λ (k : ℕ). k + (c + suc places)) (sym S)
-    ∙ regroup s c places)
+    ∙ length-append S (W ++ (46 ∷ F))
+    ∙ ap (λ (k : ℕ). length S + k) (length-append W (46 ∷ F))
+    ∙ ap (λ (k : ℕ). length S + (k + suc (length F))) (digits-length c (n / p))
+    ∙ ap (λ (k : ℕ). length S + (c + suc k)) (digits-length places n)
+    ∙ regroup (length S) c places)
   where
     regroup : (a b c : ℕ) → a + (b + suc c) ≡ a + b + 1 + c
     regroup a b c = omega arith
+
+-- a double's text is that of its sign and its units
+pub text-of : (places : ℕ) (x : Float) {negative : Bool} {n : ℕ} → negative ≡ isNegative x → n ≡ unitsOf places x → fixedText places negative n ≡ textOf places x
+unfolding textOf
+text-of places x {n = n} s u = ap (λ (t : Bool). fixedText places t n) s ∙ ap (λ (m : ℕ). fixedText places (isNegative x) m) u
 
 -- ---- what became of it
 module _ (places : ℕ) (x : Float) (buffer : List ℕ) (at : ℕ) where
@@ -134,9 +138,9 @@ module _ (places : ℕ) (x : Float) (buffer : List ℕ) (at : ℕ) where
   pub put-some : {negative : Bool} {n : ℕ} {r : Placed} {after : List ℕ} → printable x ≡ true → negative ≡ isNegative x → n ≡ unitsOf places x
       → (r ≡ placedOf buffer at (fixedText places negative n)) × (after ≡ bufferAfter buffer at (fixedText places negative n))
       → (Put r ≡ printedOf places x buffer at) × (after ≡ afterPrinting places x buffer at)
-  unfolding printedOf afterPrinting textOf
+  unfolding printedOf afterPrinting
   put-some {negative} {n} e s u p =
-      let same : fixedText places negative n ≡ textOf places x = ap (λ (t : Bool). fixedText places t n) s ∙ ap (λ (m : ℕ). fixedText places (isNegative x) m) u in (
+      let same : fixedText places negative n ≡ textOf places x = text-of places x s u in (
         sym (simp e (ap Put (sym (p .0 ∙ ap (λ (l : List ℕ). placedOf buffer at l) same)))),
         sym (simp e (sym (p .1 ∙ ap (λ (l : List ℕ). bufferAfter buffer at l) same))),
       )

@@ -1,9 +1,12 @@
 // Numbers: decimal text to the nearest double, a double to a fixed number of places, and a whole number to its digits.
+mod lengths;
 mod powers;
 mod printing;
 mod reading;
 mod rounding;
 
+pub use lengths::thousandths_length;
+pub use lengths::whole_length;
 pub use printing::Printed;
 pub use printing::write_thousandths;
 pub use printing::write_whole;

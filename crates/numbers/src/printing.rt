@@ -1,4 +1,6 @@
 // A number's text put at a place of a lent buffer: a whole number's digits, or a double's sign, whole number, point and places.
+use crate::lengths::digit_count;
+use crate::lengths::fixed_length;
 use crate::powers::power_of_ten;
 use crate::rounding::is_negative;
 use crate::rounding::is_printable;
@@ -17,19 +19,6 @@ pub enum Printed {
     // It isn't finite or is beyond 1,000,000 in magnitude: it has no text, and the buffer is as it was.
     BeyondReach,
     Put(Placed),
-}
-
-// How many decimal digits n has.
-fn digit_count(n: u64) -> usize
-    ensures { λ r. ⌜ r ≡ digitCount n ⌝ }
-{
-    let mut rest = n;
-    let mut count = 1;
-    while 10 <= rest {
-        rest = rest / 10;
-        count += 1;
-    }
-    count
 }
 
 // The last count digits of n, from the right, so that each costs a division by ten alone.
@@ -56,12 +45,6 @@ pub fn write_whole(out: &mut [u8], at: usize, n: u64) -> Placed
         return Placed::NoRoom(count);
     }
     Placed::Next(put_digits(out, at, count, n))
-}
-
-fn sign_length(negative: bool) -> usize
-    ensures { λ r. ⌜ r ≡ length (sign negative) ⌝ }
-{
-    if negative { 1 } else { 0 }
 }
 
 fn put_sign(out: &mut [u8], at: usize, negative: bool) -> usize
@@ -101,7 +84,7 @@ fn put_fixed(out: &mut [u8], at: usize, negative: bool, places: usize, n: u64) -
 {
     let whole = n / power_of_ten(places);
     let count = digit_count(whole);
-    let length = sign_length(negative) + count + 1 + places;
+    let length = fixed_length(negative, count, places);
     if !ascii::fits_at(out.len(), at, length) {
         return Placed::NoRoom(length);
     }

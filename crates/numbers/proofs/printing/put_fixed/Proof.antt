@@ -12,25 +12,24 @@ use Rattle.ascii.specs.Output.{fits}
 use Rattle.ascii.proofs.OutputLaws.{put-whole, put-nothing}
 use Rattle.numbers.specs.Printing.{lastDigits, sign, fixedText}
 use Rattle.numbers.proofs.PowerLaws.{ten-positive}
-use Rattle.numbers.proofs.PrintingLaws.{digit-count-fits, sign-fits, text-parts, text-length}
+use Rattle.numbers.proofs.PrintingLaws.{digit-count-fits, text-parts, text-length}
 use Rattle.numbers.proofs.printing.put_fixed.Statement.{statement}
 use Rattle.numbers.proofs.printing.put_fixed.Tie as tie
 
--- the text, and its length, once the digits and the sign are counted
-abbrev text : (c : tie.After-sign-length) → List ℕ
-text c = fixedText (c .before .before .before .before .args .places) (c .before .before .before .before .args .negative) (c .before .before .before .before .args .n)
+-- the text, and its length, once the digits are counted
+abbrev text : (c : tie.After-digit-count) → List ℕ
+text c = fixedText (c .before .before .before .args .places) (c .before .before .before .args .negative) (c .before .before .before .args .n)
 
-parts : (c : tie.After-sign-length) → text c ≡ sign (c .before .before .before .before .args .negative) ++ (lastDigits (c .before .digit-count .result) (c .before .before .before .before .args .n / c .before .before .power-of-ten .result) ++ (46 ∷ lastDigits (c .before .before .before .before .args .places) (c .before .before .before .before .args .n)))
-parts c = text-parts (c .before .before .before .before .args .places) (c .before .before .before .before .args .negative) (c .before .before .before .before .args .n) _ _ (c .before .before .power-of-ten .ensures) (c .before .digit-count .ensures)
+parts : (c : tie.After-digit-count) → text c ≡ sign (c .before .before .before .args .negative) ++ (lastDigits (c .digit-count .result) (c .before .before .before .args .n / c .before .power-of-ten .result) ++ (46 ∷ lastDigits (c .before .before .before .args .places) (c .before .before .before .args .n)))
+parts c = text-parts (c .before .before .before .args .places) (c .before .before .before .args .negative) (c .before .before .before .args .n) _ _ (c .before .power-of-ten .ensures) (c .digit-count .ensures)
 
-long : (c : tie.After-sign-length) → c .sign-length .result + c .before .digit-count .result + 1 + c .before .before .before .before .args .places ≡ length (text c)
-long c = text-length (c .before .before .before .before .args .places) (c .before .before .before .before .args .negative) (c .before .before .before .before .args .n) _ _ _ (c .before .before .power-of-ten .ensures) (c .sign-length .ensures) (c .before .digit-count .ensures)
-
-few : (c : tie.After-sign-length) → (c .sign-length .result ≤ 1) × (c .before .digit-count .result ≤ 20)
-few c = (rw (c .sign-length .ensures) (sign-fits (c .before .before .before .before .args .negative)), rw (c .before .digit-count .ensures) (digit-count-fits _))
+long : (c : tie.After-fixed-length) → c .fixed-length .result ≡ length (text (c .before))
+long c =
+    let a = c .before .before .before .before .args in
+    c .fixed-length .ensures ∙ text-length (a .places) (a .negative) (a .n) _ _ (c .before .before .power-of-ten .ensures) (c .before .digit-count .ensures)
 
 -- whether it fits
-fitting : (c : tie.After-fits-at) (t : Bool) → c .fits-at .result ≡ t → fits (c .before .before .before .before .before .args .out .now) (c .before .before .before .before .before .args .at) (text (c .before)) ≡ t
+fitting : (c : tie.After-fits-at) (t : Bool) → c .fits-at .result ≡ t → fits (c .before .before .before .before .before .args .out .now) (c .before .before .before .before .before .args .at) (text (c .before .before)) ≡ t
 fitting c t e = ap (λ (k : ℕ). leb (c .before .before .before .before .before .args .at + k) (length (c .before .before .before .before .before .args .out .now))) (sym (long (c .before))) ∙ sym (c .fits-at .ensures) ∙ e
 
 power-of-ten-requires : tie.Need-power-of-ten-requires
@@ -42,28 +41,19 @@ div-whole c = omega (arith, ten-positive (c .before .before .args .places), c .p
 digit-count-requires : tie.Need-digit-count-requires
 digit-count-requires c κs = search needs
 
-sign-length-requires : tie.Need-sign-length-requires
-sign-length-requires c κs = search needs
-
-add-length : tie.Need-add-length
-add-length c = omega (arith, few c)
-
-add-length-2 : tie.Need-add-length-2
-add-length-2 c = omega (arith, few c)
-
-add-length-3 : tie.Need-add-length-3
-add-length-3 c = omega (arith, few c)
+fixed-length-requires : tie.Need-fixed-length-requires
+fixed-length-requires c κs = (rw (c .digit-count .ensures) (digit-count-fits _), c .before .before .before .pre)
 
 fits-at-requires : tie.Need-fits-at-requires
 fits-at-requires c κs = search needs
 
 returns : tie.Need-returns
-returns c = put-nothing (c .before .before .before .before .before .before .args .out .now) (c .before .before .before .before .before .before .args .at) (text (c .before .before)) (fitting (c .before) false (not-true _ (c .if1 .taken))) (long (c .before .before))
+returns c = put-nothing (c .before .before .before .before .before .before .args .out .now) (c .before .before .before .before .before .before .args .at) (text (c .before .before .before)) (fitting (c .before) false (not-true _ (c .if1 .taken))) (long (c .before .before))
 
 put-parts-requires : tie.Need-put-parts-requires
 put-parts-requires c κs =
-    let room : c .before .before .before .before .before .before .before .args .at + length (text (c .before .before .before)) ≤ length (c .before .before .before .before .before .before .before .args .out .now) = leb-true _ _ (fitting (c .before .before) true (not-false _ (c .before .if1 .left))) in
-    omega (arith, long (c .before .before .before), c .before .before .before .sign-length .ensures)
+    let room : c .before .before .before .before .before .before .before .args .at + length (text (c .before .before .before .before)) ≤ length (c .before .before .before .before .before .before .before .args .out .now) = leb-true _ _ (fitting (c .before .before) true (not-false _ (c .before .if1 .left))) in
+    omega (arith, long (c .before .before .before), c .before .before .before .fixed-length .ensures)
 
 same-length : tie.Need-same-length
 same-length c = search needs
@@ -72,7 +62,7 @@ returns-2 : tie.Need-returns-2
 returns-2 c =
     let out = c .before .before .before .before .before .before .before .before .before .before .args .out .now in
     let at = c .before .before .before .before .before .before .before .before .before .before .args .at in
-    put-whole out at (text (c .before .before .before .before .before .before)) (fitting (c .before .before .before .before .before) true (not-false _ (c .before .before .before .before .if1 .left))) (rw (parts (c .before .before .before .before .before .before)) (c .before .before .put-parts .ensures))
+    put-whole out at (text (c .before .before .before .before .before .before .before)) (fitting (c .before .before .before .before .before) true (not-false _ (c .before .before .before .before .if1 .left))) (rw (parts (c .before .before .before .before .before .before .before)) (c .before .before .put-parts .ensures))
 
 pub put-fixed-spec : {M : Type 1} → statement M
 put-fixed-spec =
@@ -81,10 +71,7 @@ put-fixed-spec =
     power-of-ten-requires
     div-whole
     digit-count-requires
-    sign-length-requires
-    add-length
-    add-length-2
-    add-length-3
+    fixed-length-requires
     fits-at-requires
     returns
     put-parts-requires

@@ -1,7 +1,7 @@
 -- A minus sign is one byte, no sign none.
 use Rattle.numbers.specs.Printing.{sign}
-use Rattle.numbers.proofs.printing.sign_length.Statement.{statement}
-use Rattle.numbers.proofs.printing.sign_length.Tie as tie
+use Rattle.numbers.proofs.lengths.sign_length.Statement.{statement}
+use Rattle.numbers.proofs.lengths.sign_length.Tie as tie
 
 returns : tie.Need-returns
 unfolding sign

@@ -7,8 +7,8 @@ use borrow.Author.Needs.{needs}
 use Rattle.numbers.specs.Printing.{countUpTo, digitCount}
 use Rattle.numbers.proofs.Comparing.{le-or-lt}
 use Rattle.numbers.proofs.PrintingLaws.{count-end, count-more, tenth}
-use Rattle.numbers.proofs.printing.digit_count.Statement.{statement}
-use Rattle.numbers.proofs.printing.digit_count.Tie as tie
+use Rattle.numbers.proofs.lengths.digit_count.Statement.{statement}
+use Rattle.numbers.proofs.lengths.digit_count.Tie as tie
 
 abbrev Inv-loop : tie.InvT-loop
 Inv-loop n rest₀ count₀ rest count = (1 ≤ count) × ((count ≤ 20) × ((rest < 10 ^ (21 - count)) × (digitCount n + 1 ≡ count + countUpTo (20 - count) rest)))
