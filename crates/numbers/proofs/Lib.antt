@@ -1,6 +1,7 @@
 pub mod BitsLaws
 pub mod ClosestLaw
 pub mod Comparing
+pub mod DecimalLaws
 pub mod DigitLaws
 pub mod DivisionLaw
 pub mod GrammarLaws
@@ -12,5 +13,7 @@ pub mod PrintedReadsBack
 pub mod PrintingLaws
 pub mod ReadingLaws
 pub mod RoundingLaws
+pub mod ShortLaws
 pub mod ValueIsNearest
 pub mod ValueIsPrintable
+pub mod WalkLaws

@@ -20,6 +20,10 @@ unfoldable pub withinReach : List ℕ → List ℕ → List ℕ → Bool
 withinReach whole places exponent =
     eqb (length exponent) 0 && leb (length whole + length places) mostDigits && leb (allTogether whole places) (farthest * 10 ^ length places)
 
+-- what at most 15 digits are that write n without their point, so many of them places
+abbrev pub valueOf : Bool → ℕ → ℕ → Number
+valueOf negative n places = cond (leb n (farthest * 10 ^ places)) (Value (round binary64 negative n (10 ^ places))) BeyondReach
+
 unfoldable pub readAs : Spelling → Number
 readAs outside = OutsideGrammar
 readAs word = BeyondReach

@@ -4,6 +4,7 @@ mod powers;
 mod printing;
 mod reading;
 mod rounding;
+mod walking;
 
 pub use lengths::thousandths_length;
 pub use lengths::whole_length;

@@ -1,11 +1,15 @@
 // Decimal text to the nearest double: Rust's grammar for `f64::from_str`, and the values within reach.
 use crate::powers::power_of_ten;
+use crate::walking::walk_digits;
 ghost use mathlib.Core.Path.{_≡_};
 ghost use mathlib.Core.List.{[]};
-ghost use Prim.Native.Nat.{_≤_, _<_};
+ghost use Prim.Native.Nat.{_*_, _^_, _≤_, _<_};
+ghost use lib.Dec.{leb};
+ghost use lib.ListN.{length};
 ghost use lib.Ieee.{binary64, round};
 ghost use Rattle.numbers.specs.Grammar.{decimal, isExponentLetter, isWord, isExponent, parts, afterWhole, unsigned};
-ghost use Rattle.numbers.specs.Reading.{readAs, numberOf};
+ghost use Rattle.numbers.specs.Limits.{farthest};
+ghost use Rattle.numbers.specs.Reading.{valueOf, readAs, numberOf};
 
 pub enum Number {
     OutsideGrammar,
@@ -56,6 +60,31 @@ fn quotient(negative: bool, n: u64, p: u64) -> f64
     if negative { -q } else { q }
 }
 
+// Whether n / p is at most FARTHEST, where p is 10 to the power of places.
+fn is_near(n: u64, places: usize, p: u64) -> bool
+    requires { ⌜ (n < 1000000000000000) × (p ≡ 10 ^ places) ⌝ }
+    ensures { λ r. ⌜ r ≡ leb n (farthest * 10 ^ places) ⌝ }
+{
+    // so many places of 15 digits leave at most six before the point, and FARTHEST * p could wrap
+    if 9 <= places {
+        return true;
+    }
+    n <= FARTHEST * p
+}
+
+// What at most 15 digits are that write n without their point, so many of them places.
+fn valued(negative: bool, n: u64, places: usize) -> Number
+    requires { ⌜ (n < 1000000000000000) × (places ≤ 15) ⌝ }
+    ensures { λ r. ⌜ r ≡ valueOf negative n places ⌝ }
+{
+    let p = power_of_ten(places);
+    if is_near(n, places, p) {
+        Number::Value(quotient(negative, n, p))
+    } else {
+        Number::BeyondReach
+    }
+}
+
 // The digits before the point and those after it.
 fn read_decimal(negative: bool, whole: &[u8], places: &[u8]) -> Number
     ensures { λ r. ⌜ r ≡ readAs (decimal negative (now (whole .entry)) (now (places .entry)) []) ⌝ }
@@ -67,13 +96,7 @@ fn read_decimal(negative: bool, whole: &[u8], places: &[u8]) -> Number
         return Number::BeyondReach;
     }
     let n = ascii::number_from(ascii::number_from(0, whole), places);
-    let p = power_of_ten(places.len());
-    // n / p rounded up: FARTHEST * p could wrap
-    if (n + (p - 1)) / p <= FARTHEST {
-        Number::Value(quotient(negative, n, p))
-    } else {
-        Number::BeyondReach
-    }
+    valued(negative, n, places.len())
 }
 
 fn read_parts(negative: bool, whole: &[u8], places: &[u8], rest: &[u8]) -> Number
@@ -113,10 +136,38 @@ fn read_unsigned(negative: bool, s: &[u8]) -> Number
     read_after_whole(negative, &s[0..n], &s[n..])
 }
 
+// The same in one walk over what nearly every number is: digits, or digits, a point and digits or none.
+fn read_short(negative: bool, s: &[u8]) -> Number
+    requires { ⌜ length (now s) ≤ 15 ⌝ }
+    ensures { λ r. ⌜ r ≡ readAs (unsigned negative (now (s .entry))) ⌝ }
+{
+    let whole = walk_digits(s, 0, 0);
+    let point = whole.end;
+    // a word, a point without a digit before it, or nothing
+    if point == 0 {
+        return read_unsigned(negative, s);
+    }
+    if point == s.len() {
+        return valued(negative, whole.number, 0);
+    }
+    if s[point] != b'.' {
+        return read_unsigned(negative, s);
+    }
+    let all = walk_digits(s, point + 1, whole.number);
+    if all.end != s.len() {
+        return read_unsigned(negative, s);
+    }
+    valued(negative, all.number, s.len() - 1 - point)
+}
+
 // What a text is as a number.
 pub fn read_number(s: &[u8]) -> Number
     ensures { λ r. ⌜ r ≡ numberOf (now (s .entry)) ⌝ }
 {
     let negative = ascii::byte_at(s, 0) == b'-';
-    read_unsigned(negative, ascii::after_sign(s))
+    let unsigned = ascii::after_sign(s);
+    if unsigned.len() <= MOST_DIGITS {
+        return read_short(negative, unsigned);
+    }
+    read_unsigned(negative, unsigned)
 }

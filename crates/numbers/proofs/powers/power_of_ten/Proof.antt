@@ -1,37 +1,75 @@
--- After i turns p is the i-th power, and the fifteenth still fits.
-use mathlib.Core.Path.{_≡_, sym, ap, _∙_}
-use Prim.Native.Nat.{ℕ, _-_, _*_, _^_, _≤_}
-use native.Mathlib.Omega.{arith}
-use borrow.Author.Needs.{needs}
-use Rattle.numbers.proofs.PowerLaws.{ten-next, ten-fits}
+-- Each arm of the match is one power; what is left after fifteen of them, and is at most 15, is 15.
+use mathlib.Core.Path.{_≡_}
+use native.Mathlib.Nat.{le-antisymm}
+use Rattle.numbers.proofs.PowerLaws.{ten-at, passed}
 use Rattle.numbers.proofs.powers.power_of_ten.Statement.{statement}
 use Rattle.numbers.proofs.powers.power_of_ten.Tie as tie
 
-abbrev Inv-loop : tie.InvT-loop
-Inv-loop k p₀ i₀ p i = (i ≤ k) × (p ≡ 10 ^ i)
+returns : tie.Need-returns
+returns c = ten-at (c .match .keys1)
 
-abbrev μ-loop : tie.MeasureT-loop
-μ-loop k p₀ i₀ p i = k - i
+returns-2 : tie.Need-returns-2
+returns-2 c = ten-at (c .match .keys2)
 
-loop-holds : tie.Need-loop-holds Inv-loop μ-loop
-loop-holds c = search needs
+returns-3 : tie.Need-returns-3
+returns-3 c = ten-at (c .match .keys3)
 
-mul-p : tie.Need-mul-p Inv-loop μ-loop
-mul-p c = omega (arith, ten-fits (c .before .loop .i) (omega arith))
+returns-4 : tie.Need-returns-4
+returns-4 c = ten-at (c .match .keys4)
 
-add-i : tie.Need-add-i Inv-loop μ-loop
-add-i c = search needs
+returns-5 : tie.Need-returns-5
+returns-5 c = ten-at (c .match .keys5)
 
-loop-less : tie.Need-loop-less Inv-loop μ-loop
-loop-less c = search needs
+returns-6 : tie.Need-returns-6
+returns-6 c = ten-at (c .match .keys6)
 
-loop-again : tie.Need-loop-again Inv-loop μ-loop
-loop-again c = (omega arith, ap (λ (x : ℕ). x * 10) (c .before .loop .inv .1) ∙ sym (ten-next (c .before .loop .i)))
+returns-7 : tie.Need-returns-7
+returns-7 c = ten-at (c .match .keys7)
 
-returns : tie.Need-returns Inv-loop μ-loop
-returns c = let e : c .before .loop .i ≡ c .before .before .args .k = omega arith in c .before .loop .inv .1 ∙ ap (λ (x : ℕ). 10 ^ x) e
+returns-8 : tie.Need-returns-8
+returns-8 c = ten-at (c .match .keys8)
+
+returns-9 : tie.Need-returns-9
+returns-9 c = ten-at (c .match .keys9)
+
+returns-10 : tie.Need-returns-10
+returns-10 c = ten-at (c .match .keys10)
+
+returns-11 : tie.Need-returns-11
+returns-11 c = ten-at (c .match .keys11)
+
+returns-12 : tie.Need-returns-12
+returns-12 c = ten-at (c .match .keys12)
+
+returns-13 : tie.Need-returns-13
+returns-13 c = ten-at (c .match .keys13)
+
+returns-14 : tie.Need-returns-14
+returns-14 c = ten-at (c .match .keys14)
+
+returns-15 : tie.Need-returns-15
+returns-15 c = ten-at (c .match .keys15)
+
+returns-16 : tie.Need-returns-16
+returns-16 c = ten-at (le-antisymm (c .before .pre) (passed 15 (c .before .args .k) (c .match .rest)))
 
 pub power-of-ten-spec : {M : Type 1} → statement M
 power-of-ten-spec =
     tie.close
-    (tie.spec Inv-loop μ-loop loop-holds mul-p add-i loop-less loop-again returns)
+    (tie.spec
+    returns
+    returns-2
+    returns-3
+    returns-4
+    returns-5
+    returns-6
+    returns-7
+    returns-8
+    returns-9
+    returns-10
+    returns-11
+    returns-12
+    returns-13
+    returns-14
+    returns-15
+    returns-16)
