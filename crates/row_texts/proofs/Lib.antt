@@ -1,3 +1,5 @@
 pub mod EmittedLaws
 pub mod FieldLaws
+pub mod FieldsAreShort
+pub mod RowLengths
 pub mod RowsInParts

@@ -10,8 +10,12 @@ use Rattle.ascii.specs.declared.output.Placed.{Placed}
 use Rattle.ascii.specs.declared.output.Placed.the-variants.{Next, NoRoom}
 use Rattle.field_slices.specs.Slice.{Slice}
 
+-- a text that begins at one place ends at the other, as long as places are numbers of 64 bits
+abbrev pub Ends : ℕ → List ℕ → ℕ → Type 0
+Ends at text next = at + length text < 2 ^ 64 → next ≡ at + length text
+
 pub record Emitted (out : List ℕ) (at : ℕ) (text : List ℕ) (next : ℕ) (after : List ℕ) : Type 0 where
-  pub place : at + length text < 2 ^ 64 → next ≡ at + length text
+  pub place : Ends at text next
   pub same : length after ≡ length out
   pub bytes : at + length text ≤ length out → after ≡ sets out at text
 

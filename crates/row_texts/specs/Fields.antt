@@ -1,9 +1,11 @@
 -- The text of each field of a row.
-use Prim.Native.Nat.{ℕ, _-_, _^_}
+use Prim.Native.Nat.{ℕ, _-_, _^_, _≤_}
+use mathlib.Core.Path.{_≡_}
 use mathlib.Core.Bool.{Bool, cond}
 use mathlib.Core.List.{List, [], _∷_}
 use lib.Dec.{eqb, ltb}
 use lib.Ieee.{Float}
+use lib.ListN.{length}
 use Rattle.ascii.specs.Bytes.{byte, bytes}
 use Rattle.numbers.specs.Printing.{lastDigits, digitCount, textOf}
 use Rattle.tokens.specs.Quote.{quoteOf}
@@ -38,3 +40,10 @@ numberText polymer number = cond polymer (decimalOf number) (bytes ".")
 -- three places
 abbrev pub coordinateText : Float → List ℕ
 coordinateText x = textOf 3 x
+
+-- ---- their lengths
+
+-- n is how many bytes a field has, and they are few, so that no sum of such lengths wraps
+pub record FieldLength (text : List ℕ) (n : ℕ) : Type 0 where
+  pub long : n ≡ length text
+  pub few : n ≤ 25

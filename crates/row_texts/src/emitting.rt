@@ -8,7 +8,7 @@ ghost use Rattle.row_texts.specs.Emitted.{Emits, placeAfter};
 const LAST: usize = 0xffff_ffff_ffff_ffff;
 
 // The place n bytes on. Past the last place there is none: no buffer reaches so far.
-fn place_on(at: usize, n: usize) -> usize
+pub(crate) fn place_on(at: usize, n: usize) -> usize
     ensures { λ r. ⌜ (at + n < 2 ^ 64 → r ≡ at + n) ⌝ }
 {
     if LAST - at < n {

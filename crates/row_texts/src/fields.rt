@@ -10,7 +10,7 @@ ghost use Rattle.row_texts.specs.Emitted.{Emits};
 ghost use Rattle.row_texts.specs.Fields.{decimalOf, sequenceText, nameText, symbolText, codeText, groupText, numberText, coordinateText};
 
 // Where sequence number 0 stands among those moved up.
-const ZERO: u32 = 0x8000_0000;
+pub(crate) const ZERO: u32 = 0x8000_0000;
 
 pub(crate) fn put_decimal(out: &mut [u8], at: usize, n: u64) -> usize
     ensures { λ r. ⌜ Emits out at (decimalOf n) r ⌝ }
