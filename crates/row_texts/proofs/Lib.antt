@@ -1,5 +1,6 @@
 pub mod EmittedLaws
 pub mod FieldLaws
 pub mod FieldsAreShort
+pub mod PlainNames
 pub mod RowLengths
 pub mod RowsInParts

@@ -2,6 +2,8 @@
 use crate::emitting::place_after;
 use crate::emitting::put_byte;
 use crate::emitting::put_word;
+use crate::packed_names::plain_length;
+use crate::packed_names::put_packed;
 use numbers::Printed;
 ghost use mathlib.Core.Path.{_≡_};
 ghost use mathlib.Core.Bool.{true};
@@ -33,6 +35,16 @@ pub(crate) fn put_sequence(out: &mut [u8], at: usize, sequence: u32) -> usize
 pub(crate) fn put_name(out: &mut [u8], at: usize, name: u64) -> usize
     ensures { λ r. ⌜ Emits out at (nameText name) r ⌝ }
 {
+    if plain_length(name) == 0 {
+        return put_quoted(out, at, name);
+    }
+    put_packed(out, at, name)
+}
+
+// Any packed name, also one that needs quotes: by way of its text.
+pub(crate) fn put_quoted(out: &mut [u8], at: usize, name: u64) -> usize
+    ensures { λ r. ⌜ Emits out at (nameText name) r ⌝ }
+{
     let mut cell = [0u8; 8];
     let n = names::unpack(name, &mut cell);
     let placed = tokens::quote_string(&cell[0..n], out, at);
@@ -42,9 +54,7 @@ pub(crate) fn put_name(out: &mut [u8], at: usize, name: u64) -> usize
 pub(crate) fn put_symbol(out: &mut [u8], at: usize, element: u8) -> usize
     ensures { λ r. ⌜ Emits out at (symbolText element) r ⌝ }
 {
-    let mut cell = [0u8; 8];
-    let n = names::unpack(names::symbol_of(element), &mut cell);
-    put_word(out, at, &cell[0..n])
+    put_packed(out, at, names::symbol_of(element))
 }
 
 pub(crate) fn put_code(out: &mut [u8], at: usize, code: u8) -> usize

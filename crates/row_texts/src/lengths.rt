@@ -1,7 +1,8 @@
 // How many bytes the text of each field of a row has, told without a buffer.
 use crate::fields::ZERO;
-use crate::fields::put_name;
+use crate::fields::put_quoted;
 use crate::fields::put_symbol;
+use crate::packed_names::plain_length;
 use rows::Point3;
 ghost use mathlib.Core.Path.{_≡_};
 ghost use mathlib.Core.Bool.{true};
@@ -29,8 +30,12 @@ pub(crate) fn sequence_length(sequence: u32) -> usize
 pub(crate) fn name_length(name: u64) -> usize
     ensures { λ r. ⌜ FieldLength (nameText name) r ⌝ }
 {
+    let n = plain_length(name);
+    if n != 0 {
+        return n;
+    }
     let mut none = [0u8; 0];
-    put_name(&mut none, 0, name)
+    put_quoted(&mut none, 0, name)
 }
 
 pub(crate) fn symbol_length(element: u8) -> usize

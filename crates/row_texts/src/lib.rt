@@ -3,6 +3,7 @@ mod emitting;
 mod fields;
 mod lengths;
 mod loop_rows;
+mod packed_names;
 mod row_ends;
 
 pub use emitting::put_word;

@@ -1,17 +1,35 @@
--- The name put into a buffer without a byte ends as far on as it is long.
+-- A plain name is written as it is; the text of any other, put into a buffer without a byte, ends as far on as it is long.
+use mathlib.Core.Path.{sym, ap, _∙_}
+use native.Mathlib.Omega.{arith}
+use lib.ListN.{length}
 use borrow.Author.Needs.{needs}
-use Rattle.row_texts.proofs.FieldsAreShort.{name-short, from-the-start}
+use Rattle.row_texts.proofs.FieldsAreShort.{name-short, counted, from-the-start}
 use Rattle.row_texts.proofs.lengths.name_length.Statement.{statement}
 use Rattle.row_texts.proofs.lengths.name_length.Tie as tie
 
-slice-aggregate-put-name : tie.Need-slice-aggregate-put-name
-slice-aggregate-put-name c = search needs
-
-put-name-requires : tie.Need-put-name-requires
-put-name-requires c κs = search needs
+plain-length-requires : tie.Need-plain-length-requires
+plain-length-requires c κs = search needs
 
 returns : tie.Need-returns
-returns c = from-the-start (c .before .put-name .ensures .place) (name-short (c .before .before .before .args .name))
+returns c =
+    let plain = c .before .plain-length .ensures (omega arith) in
+    counted (plain .1 ∙ ap length (sym (plain .0))) (name-short (c .before .before .args .name))
+
+slice-aggregate-put-quoted : tie.Need-slice-aggregate-put-quoted
+slice-aggregate-put-quoted c = search needs
+
+put-quoted-requires : tie.Need-put-quoted-requires
+put-quoted-requires c κs = search needs
+
+returns-2 : tie.Need-returns-2
+returns-2 c = from-the-start (c .before .put-quoted .ensures .place) (name-short (c .before .before .before .before .before .args .name))
 
 pub name-length-spec : {M : Type 1} → statement M
-name-length-spec = tie.close (tie.spec slice-aggregate-put-name put-name-requires returns)
+name-length-spec =
+    tie.close
+    (tie.spec
+    plain-length-requires
+    returns
+    slice-aggregate-put-quoted
+    put-quoted-requires
+    returns-2)
