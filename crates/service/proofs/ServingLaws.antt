@@ -1,5 +1,6 @@
 -- What is served by the answers of the reading and of the writing: each of their cases is a case of the definition.
 use mathlib.Core.Path.{_≡_, refl, sym, ap, _∙_, subst}
+use mathlib.Core.Bool.{true}
 use mathlib.Core.List.{List}
 use Prim.Native.Nat.{ℕ}
 use native.Mathlib.Omega.{arith}
@@ -12,6 +13,7 @@ use Rattle.building.specs.Holds.{sizesOf}
 use Rattle.building.specs.declared.sites.Counts.{Counts}
 use Rattle.model.specs.Lent.{Lent, roomOf, holding, emptyModel}
 use Rattle.model.specs.Records.{Model}
+use Rattle.model.specs.WellFormed.{wellFormedIn}
 use Rattle.model.specs.declared.room.Room.{Room}
 use Rattle.results.specs.declared.answers.Answer.{Answer}
 use Rattle.readings.specs.Reading as readings
@@ -23,7 +25,18 @@ use Rattle.writer.specs.Writing.{Writing, written, writingOf, writeOf, Wrote}
 use Rattle.writer.specs.declared.answers.Answer as writer-answer
 use Rattle.writer.specs.declared.answers.Answer.the-variants as written-answer
 use Rattle.service.specs.Serving.{byWriting, byReading, serveOf, answerOf, leftIn, writtenTo, Serves, writtenAnswer, leftWritten, WritesOut}
-use Rattle.service.proofs.WrittenAsRead.{written-as-read}
+use Rattle.service.proofs.WrittenAsRead.{well-counted, written-as-read}
+
+-- ---- the reading: what is read is well formed where it stands
+pub read-well : (settings : Settings) (l : Lent) (text : List ℕ) (counts : Counts) (after : Lent) → let reading = readOf settings (roomOf l) text in
+    read-answer.Read counts ≡ readings.answerOf reading → after ≡ readings.leftBy l reading → wellFormedIn after (sizesOf counts) ≡ true
+read-well settings l text counts after = go (readOf settings (roomOf l) text) refl
+  where
+    go : (r : Reading) → readOf settings (roomOf l) text ≡ r → read-answer.Read counts ≡ readings.answerOf r → after ≡ readings.leftBy l r → wellFormedIn after (sizesOf counts) ≡ true
+    go (read m others) e a f =
+        let same : others ≡ counts = cc in
+        ap (λ (x : Lent). wellFormedIn x (sizesOf counts)) f ∙ well-counted settings l text m counts (e ∙ ap (read m) same)
+    go (readings.refused why) e a f = let z : _≡_ {A = ℕ} 0 1 = cc in absurd (omega arith)
 
 -- ---- the writing
 module _ (l : Lent) (counts : Counts) (out : List ℕ) where

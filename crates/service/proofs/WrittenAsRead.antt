@@ -14,6 +14,7 @@ use Rattle.model.specs.Finished.{atomRecord, classified, positioned}
 use Rattle.model.specs.Lent.{Lent, roomOf, holding, sizesIn}
 use Rattle.model.specs.Records.{Model}
 use Rattle.model.specs.WellFormed.{countsFit, wellFormedIn}
+use Rattle.model.specs.declared.room.Room.{Room}
 use Rattle.model.proofs.HeldModelIsRead.{held-model-is-read, well-formed-there}
 use Rattle.model.proofs.ListLaws.{both}
 use Rattle.readings.specs.Reading.{read}
@@ -62,9 +63,15 @@ module _ (settings : Settings) (l : Lent) (text : List ℕ) (m : Model) (counts 
   pub well-held : wellFormedIn (holding l m) (sizesIn m) ≡ true
   well-held = well-formed-there l m fit ∙ read-is-well-formed settings (roomOf l) text m counts e
 
+  sizes-are : sizesOf counts ≡ sizesIn m
+  sizes-are = λ i. record { chains = counted .0 i; residues = counted .1 i; atoms = counted .2 i }
+
+  pub well-counted : wellFormedIn (holding l m) (sizesOf counts) ≡ true
+  well-counted = ap (wellFormedIn (holding l m)) sizes-are ∙ well-held
+
   -- ---- the theorem
   pub written-as-read : (out : List ℕ) → writeOf (holding l m) (sizesOf counts) (length out) ≡ writingOf (length out) m
   written-as-read out =
-      (λ i. writeOf (holding l m) (record { chains = counted .0 i; residues = counted .1 i; atoms = counted .2 i }) (length out))
+      ap (λ (sizes : Room). writeOf (holding l m) sizes (length out)) sizes-are
       ∙ sym (well-formed out (holding l m) (sizesIn m) well-held)
       ∙ ap (writingOf (length out)) (held-model-is-read l m)

@@ -6,12 +6,16 @@ use model::no_records;
 use refusals::Refusal;
 use results::Answer;
 use rows::Settings;
-use writer::write_by_names;
+use writer::write_well_formed;
+ghost use mathlib.Core.Path.{_≡_};
+ghost use mathlib.Core.Bool.{true};
+ghost use Rattle.building.specs.Holds.{sizesOf};
 ghost use Rattle.field_slices.specs.Slice.{held};
-ghost use Rattle.model.specs.Lent.{lent};
+ghost use Rattle.model.specs.Lent.{passed, lent};
+ghost use Rattle.model.specs.WellFormed.{wellFormedIn};
 ghost use Rattle.service.specs.Serving.{Serves, WritesOut};
 
-// The model in the records written; on a refusal the records are cleared.
+// The model in the records written, which is well formed since it was read; on a refusal the records are cleared.
 fn write_out(
     out: &mut [u8],
     chains: &mut [u64],
@@ -27,10 +31,12 @@ fn write_out(
     occupancies: &mut [f64],
     counts: Counts,
 ) -> Answer
+    requires { ⌜ wellFormedIn (passed chains «residue_keys» «residue_names» «residue_codes» «residue_categories» «residue_positions»
+        «atom_keys» «atom_names» elements positions occupancies) (sizesOf counts) ≡ true ⌝ }
     ensures { λ r. ⌜ (let l = lent chains «residue_keys» «residue_names» «residue_codes» «residue_categories» «residue_positions» «atom_keys» «atom_names» elements positions occupancies in
         let o = held out in WritesOut (l .entry) counts (o .entry) r (l .exit) (o .exit)) ⌝ }
 {
-    let written = write_by_names(
+    let written = write_well_formed(
         chains,
         residue_keys,
         residue_names,

@@ -10,5 +10,6 @@ pub mod RowsJoined
 pub mod RunWalk
 pub mod TextIsShort
 pub mod Unwritten
+pub mod WalkBounds
 pub mod WellFormedParts
 pub mod WritingLaws

@@ -3,7 +3,7 @@
 use mathlib.Core.Path.{_≡_, refl, sym, ap, _∙_}
 use mathlib.Core.Bool.{Bool, true, false, cond}
 use mathlib.Core.List.{List}
-use Prim.Native.Nat.{ℕ, suc, _+_, _^_, _<_}
+use Prim.Native.Nat.{ℕ, suc, _+_, _<_}
 use native.Mathlib.Omega.{arith}
 use lib.Dec.{eqb}
 use borrow.Author.Tests.{eqb-true, eqb-false}
@@ -17,9 +17,9 @@ use Rattle.writer.specs.Text.{numberIn, residueFor}
 use Rattle.writer.specs.PolymerNumbers.{numberAfter, enteredAt, begun, walkedTo}
 use Rattle.writer.specs.declared.polymer_numbers.Walk.{Walk}
 use Rattle.writer.proofs.NumberWalk.{none-numbered, number-goes}
-use Rattle.writer.proofs.ResiduesByIndex.{residue-is, number-fewer}
+use Rattle.writer.proofs.ResiduesByIndex.{residue-is}
 use Rattle.writer.proofs.RunWalk.{StandsIn, stands-first, stands-still, stands-next}
-use Rattle.writer.proofs.WellFormedParts.{few-residues, runs, keyed}
+use Rattle.writer.proofs.WellFormedParts.{runs, keyed}
 
 -- on to the atom at index i
 abbrev pub walkedOn : Lent → ℕ → Walk → Walk
@@ -91,8 +91,3 @@ module _ (l : Lent) (counts : Room) (well : wellFormedIn l counts ≡ true) wher
     pub walk-number : on .number ≡ numberIn (modelIn l counts .residues) (entries (l .atomKeys) i)
     unfolding modelIn
     walk-number = ap (λ (v : Walk). v .number) (goes .0 .is (omega arith)) ∙ ap (numberIn (residuesIn l (counts .residues))) (goes .1)
-
-    -- where the walk can go on from
-    pub walk-can : (w .index < counts .residues) × (w .number + 1 < 2 ^ 64)
-    walk-can =
-        (before .stands .within (omega arith), omega (arith, ap (λ (v : Walk). v .number) (before .is (omega arith)), number-fewer (residueIn l) (counts .residues) (keyed l counts well) (residueIn l (w .index) .key), few-residues l counts well))

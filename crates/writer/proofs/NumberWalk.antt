@@ -2,10 +2,9 @@
 use mathlib.Core.Path.{_≡_, refl, sym, ap, _∙_}
 use mathlib.Core.Bool.{Bool, true, false, cond}
 use mathlib.Core.List.{[], map}
-use Prim.Native.Nat.{ℕ, zero, suc, _+_, _≤_, _<_}
+use Prim.Native.Nat.{ℕ, zero, suc, _+_, _<_}
 use native.Mathlib.Nat.{zero-add}
 use native.Mathlib.Numerals.{add-one}
-use native.Mathlib.Omega.{arith}
 use lib.Dec.{eqb}
 use Rattle.names.specs.Places.{ascends}
 use Rattle.model.specs.Keys.{chainPart}
@@ -17,7 +16,7 @@ use Rattle.model.specs.Termini.{isPolymer}
 use Rattle.model.specs.declared.taken_out.Residue.{Residue}
 use Rattle.writer.specs.Text.{numberIn}
 use Rattle.writer.specs.PolymerNumbers.{numberAfter, polymerBy}
-use Rattle.writer.proofs.ResiduesByIndex.{number-at-first, number-at-next, number-fewer}
+use Rattle.writer.proofs.ResiduesByIndex.{number-at-first, number-at-next}
 use Rattle.writer.proofs.RowsJoined.{polymerRow}
 
 module _ (at : ℕ → ResidueRecord) (m : ℕ) where
@@ -59,13 +58,6 @@ module _ (at : ℕ → ResidueRecord) (m : ℕ) where
           ap (λ (n : ℕ). numberAfter n chain (residueOut (at i))) (before .counts)
           ∙ ap (λ (c : ℕ). numberAfter (numberBefore i) c (residueOut (at i))) (before .place)
           ∙ step i h
-
-      pub number-few : number ≤ m
-      number-few = go i (before .counts)
-        where
-          go : (j : ℕ) → number ≡ numberBefore j → number ≤ m
-          go zero e = omega arith
-          go (suc j) e = omega (arith, number-fewer at m a (at j .key))
 
   -- the row of the residue at index i
   abbrev pub alone : Model

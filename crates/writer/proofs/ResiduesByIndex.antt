@@ -20,7 +20,7 @@ use Rattle.model.specs.Termini.{isPolymer}
 use Rattle.model.proofs.AscendingLaws.{ascends-all, ascends-before, ascends-from}
 use Rattle.model.proofs.ListLaws.{all-map, all-append, filter-append, filter-same}
 use Rattle.writer.specs.Text.{numberIn, residueFor}
-use Rattle.writer.proofs.ListsByIndex.{from-split, from-length, from-all}
+use Rattle.writer.proofs.ListsByIndex.{from-split, from-all}
 
 abbrev Keyed : List ResidueRecord → Type 0
 Keyed l = ascends (map (λ r. r .key) l) ≡ true
@@ -55,14 +55,6 @@ inChain chain l = length (filter (isIn chain) l)
 filter-none : (p : ResidueRecord → Bool) (l : List ResidueRecord) → All (λ t. p t ≡ false) l → filter p l ≡ []
 filter-none p [] a = refl
 filter-none p (t ∷ l) a = rw (a .0) (filter-none p l (a .1))
-
-filter-fewer : (p : ResidueRecord → Bool) (l : List ResidueRecord) → length (filter p l) ≤ length l
-filter-fewer p [] = omega arith
-filter-fewer p (t ∷ l) = go (p t) (filter-fewer p l)
-  where
-    go : (b : Bool) → length (filter p l) ≤ length l → length (cond b (t ∷ filter p l) (filter p l)) ≤ suc (length l)
-    go true h = omega arith
-    go false h = omega arith
 
 count-is : (b : Bool) (t : ResidueRecord) → length (cond b (t ∷ []) []) ≡ count b
 count-is true t = refl
@@ -178,7 +170,3 @@ module _ (at : ℕ → ResidueRecord) (m : ℕ) (a : Keyed (listFrom at 0 m)) wh
       ap (λ (l : List ResidueRecord). numberIn l (at (suc j) .key)) split
       ∙ number-next (listFrom at 0 j) (at j) (at (suc j)) (listFrom at (suc (suc j)) e) (ap (λ (l : List ResidueRecord). ascends (map (λ t. t .key) l)) (sym split) ∙ a)
       ∙ ap (λ (l : List ResidueRecord). cond (eqb (chainPart (at (suc j) .key)) (chainPart (at j .key))) (numberIn l (at j .key)) 0 + count (isPolymer (at (suc j) .code))) (sym split)
-
-  pub number-fewer : (key : ℕ) → numberIn all key ≤ m
-  unfolding numberIn
-  number-fewer key = omega (arith, filter-fewer (λ t. isPolymer (t .code) && eqb (chainPart (t .key)) (chainPart key) && leb (t .key) key) all, from-length at 0 m)

@@ -1,14 +1,15 @@
 -- The walk over the residues, from each to the next, with the number of each among the polymer residues of its chain; and what is written on the way.
-use Prim.Native.Nat.{ℕ, suc, _+_}
+use Prim.Native.Nat.{ℕ, suc, _+_, _≤_}
 use mathlib.Core.Bool.{Bool, _||_, cond}
 use mathlib.Core.List.{List, []}
 use lib.Dec.{eqb}
-use lib.ListN.{getD}
+use lib.ListN.{length, getD}
 use Rattle.model.specs.Keys.{chainPart, sequencePart, codePart}
 use Rattle.model.specs.Lists.{count}
 use Rattle.model.specs.Records.{ResidueRecord, Model}
 use Rattle.model.specs.TakenOut.{residueOut}
 use Rattle.model.specs.Termini.{isPolymer}
+use Rattle.model.specs.declared.room.Room.{Room}
 use Rattle.model.specs.declared.taken_out.Atom.{Atom}
 use Rattle.model.specs.declared.taken_out.Residue.{Residue}
 use Rattle.row_texts.specs.Rows.{polymerText}
@@ -34,6 +35,10 @@ begun at = enteredAt at 0 0 0
 -- on to the residue of a key: the same one, or the next
 unfoldable pub walkedTo : (ℕ → ResidueRecord) → Walk → ℕ → Walk
 walkedTo at w key = cond (eqb (at (w .index) .key) key) w (enteredAt at (suc (w .index)) (w .number) (w .residue .chain))
+
+-- what a walk over the atoms leans on, in a model that is well formed or not
+abbrev pub Walkable : List ℕ → Room → Type 0
+Walkable chains counts = (counts .chains ≤ length chains) × (counts .atoms ≤ 1048576)
 
 -- ---- what is said of an atom in the residue where the walk stands
 

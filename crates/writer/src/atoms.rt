@@ -18,11 +18,11 @@ ghost use mathlib.Core.Path.{_≡_};
 ghost use mathlib.Core.Bool.{true};
 ghost use Prim.Native.Nat.{_≤_};
 ghost use lib.ListN.{length, take};
-ghost use Rattle.model.specs.Lent.{passed, lent, modelIn};
+ghost use Rattle.model.specs.Lent.{lent, modelIn};
 ghost use Rattle.model.specs.WellFormed.{wellFormedIn};
 ghost use Rattle.row_texts.specs.Emitted.{Emits};
 ghost use Rattle.writer.specs.Text.{atomLoop};
-ghost use Rattle.writer.specs.PolymerNumbers.{rowBy, atomsOf};
+ghost use Rattle.writer.specs.PolymerNumbers.{rowBy, atomsOf, Walkable};
 
 // The row of an atom in the residue where the walk stands.
 fn atom_row(chains: &[u64], chain_count: usize, id: u64, atom: Atom, walk: Walk) -> AtomRow
@@ -63,10 +63,9 @@ fn put_atom_rows(
     occupancies: &[f64],
     counts: Room,
 ) -> usize
-    requires { ⌜ wellFormedIn (passed chains «residue_keys» «residue_names» «residue_codes» «residue_categories» «residue_positions»
-        «atom_keys» «atom_names» elements positions occupancies) counts ≡ true ⌝ }
+    requires { ⌜ Walkable (now chains) counts ⌝ }
     ensures { λ r. ⌜ (let l = lent chains «residue_keys» «residue_names» «residue_codes» «residue_categories» «residue_positions» «atom_keys» «atom_names» elements positions occupancies .entry in
-        Emits out at (atomsOf (modelIn l counts)) r) ⌝ }
+        wellFormedIn l counts ≡ true → Emits out at (atomsOf (modelIn l counts)) r) ⌝ }
 {
     let mut place = at;
     let mut walk = begin_walk(
@@ -111,10 +110,9 @@ pub(crate) fn put_atom_loop(
     occupancies: &[f64],
     counts: Room,
 ) -> usize
-    requires { ⌜ wellFormedIn (passed chains «residue_keys» «residue_names» «residue_codes» «residue_categories» «residue_positions»
-        «atom_keys» «atom_names» elements positions occupancies) counts ≡ true ⌝ }
+    requires { ⌜ Walkable (now chains) counts ⌝ }
     ensures { λ r. ⌜ (let l = lent chains «residue_keys» «residue_names» «residue_codes» «residue_categories» «residue_positions» «atom_keys» «atom_names» elements positions occupancies .entry in
-        Emits out at (atomLoop (atomsOf (modelIn l counts))) r) ⌝ }
+        wellFormedIn l counts ≡ true → Emits out at (atomLoop (atomsOf (modelIn l counts))) r) ⌝ }
 {
     let at = put_atom_headers(out, at);
     let at = put_atom_rows(

@@ -1,10 +1,10 @@
 // The walk over the residues: where it stands, with the residue's number among the polymer residues of its chain.
+use field_slices::u64_at;
 use model::Residue;
 use model::is_polymer;
 use model::residue_at;
 ghost use mathlib.Core.Path.{_≡_};
 ghost use Prim.Native.Nat.{_^_, _+_, _<_};
-ghost use lib.ListN.{length};
 ghost use Rattle.model.specs.Lent.{residueFrom};
 ghost use Rattle.model.specs.Lists.{count};
 ghost use Rattle.model.specs.Termini.{isPolymer};
@@ -65,11 +65,11 @@ pub(crate) fn walk_to(
     walk: Walk,
     key: u64,
 ) -> Walk
-    requires { ⌜ (walk .index < length (now keys)) × (walk .number + 1 < 2 ^ 64) ⌝ }
+    requires { ⌜ (walk .index + 1 < 2 ^ 64) × (walk .number + 1 < 2 ^ 64) ⌝ }
     ensures { λ r. ⌜ r ≡ walkedTo (residueFrom (now (keys .entry)) (now (names .entry)) (now (codes .entry)) (now (categories .entry)) (now (positions .entry))) walk key ⌝ }
 {
     let index = walk.index;
-    if keys[index] == key {
+    if u64_at(keys, index) == key {
         return walk;
     }
     let residue = residue_at(keys, names, codes, categories, positions, index + 1);

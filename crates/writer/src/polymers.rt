@@ -10,7 +10,7 @@ use row_texts::put_polymer_row;
 use row_texts::put_word;
 ghost use mathlib.Core.Path.{_≡_};
 ghost use mathlib.Core.Bool.{true};
-ghost use Prim.Native.Nat.{_+_, _^_, _≤_, _<_};
+ghost use Prim.Native.Nat.{_+_, _^_, _<_};
 ghost use Rattle.model.specs.Lent.{listFrom, residueFrom};
 ghost use Rattle.model.specs.Lists.{any};
 ghost use Rattle.model.specs.Termini.{isPolymer};
@@ -58,8 +58,8 @@ fn put_polymer_rows(
     positions: &[u8],
     n: usize,
 ) -> usize
-    requires { ⌜ (residuesAscend (now keys) n ≡ true) × (n ≤ 65536) ⌝ }
-    ensures { λ r. ⌜ Emits out at (polymersOf (listFrom (residueFrom (now (keys .entry)) (now (names .entry)) (now (codes .entry)) (now (categories .entry)) (now (positions .entry))) 0 n)) r ⌝ }
+    ensures { λ r. ⌜ (residuesAscend (now (keys .entry)) n ≡ true →
+        Emits out at (polymersOf (listFrom (residueFrom (now (keys .entry)) (now (names .entry)) (now (codes .entry)) (now (categories .entry)) (now (positions .entry))) 0 n)) r) ⌝ }
 {
     let mut place = at;
     let mut chain = 0;
@@ -85,9 +85,8 @@ pub(crate) fn put_polymer_list(
     positions: &[u8],
     n: usize,
 ) -> usize
-    requires { ⌜ (residuesAscend (now keys) n ≡ true) × (n ≤ 65536) ⌝ }
-    ensures { λ r. ⌜ Emits out at (polymerList (polymersOf (listFrom (residueFrom (now (keys .entry)) (now (names .entry)) (now (codes .entry)) (now
-        (categories .entry)) (now (positions .entry))) 0 n))) r ⌝ }
+    ensures { λ r. ⌜ (residuesAscend (now (keys .entry)) n ≡ true →
+        Emits out at (polymerList (polymersOf (listFrom (residueFrom (now (keys .entry)) (now (names .entry)) (now (codes .entry)) (now (categories .entry)) (now (positions .entry))) 0 n))) r) ⌝ }
 {
     if !has_polymers(codes, n) {
         return at;

@@ -15,10 +15,10 @@ ghost use Prim.Native.Nat.{_≤_};
 ghost use lib.ListN.{length, take};
 ghost use Rattle.names.specs.Packing.{unpacked};
 ghost use Rattle.tokens.specs.Quote.{has};
-ghost use Rattle.model.specs.Lent.{passed, lent, modelIn};
+ghost use Rattle.model.specs.Lent.{lent, modelIn};
 ghost use Rattle.model.specs.WellFormed.{wellFormedIn};
 ghost use Rattle.writer.specs.Unwritable.{holdsBothQuotes, isUnwritableCode, unwritableIn};
-ghost use Rattle.writer.specs.PolymerNumbers.{unwritableBy};
+ghost use Rattle.writer.specs.PolymerNumbers.{unwritableBy, Walkable};
 
 // Whether a byte stands in a name: each turn passes the first byte of what is left.
 fn holds(name: u64, b: u8) -> bool
@@ -86,10 +86,9 @@ pub(crate) fn first_unwritable(
     occupancies: &[f64],
     counts: Room,
 ) -> usize
-    requires { ⌜ wellFormedIn (passed chains «residue_keys» «residue_names» «residue_codes» «residue_categories» «residue_positions»
-        «atom_keys» «atom_names» elements positions occupancies) counts ≡ true ⌝ }
+    requires { ⌜ Walkable (now chains) counts ⌝ }
     ensures { λ r. ⌜ (let l = lent chains «residue_keys» «residue_names» «residue_codes» «residue_categories» «residue_positions» «atom_keys» «atom_names» elements positions occupancies .entry in
-        r ≡ unwritableIn (modelIn l counts)) ⌝ }
+        wellFormedIn l counts ≡ true → r ≡ unwritableIn (modelIn l counts)) ⌝ }
 {
     let mut walk = begin_walk(
         residue_keys,

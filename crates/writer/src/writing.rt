@@ -9,11 +9,12 @@ use refusals::Reason;
 use wellformed::is_well_formed;
 ghost use mathlib.Core.Path.{_≡_};
 ghost use mathlib.Core.Bool.{true};
-ghost use Rattle.model.specs.Lent.{passed, lent, modelIn};
+ghost use Rattle.model.specs.Lent.{lent, modelIn};
 ghost use Rattle.model.specs.WellFormed.{wellFormedIn};
 ghost use Rattle.row_texts.specs.Emitted.{Emits};
+ghost use Rattle.writer.specs.PolymerNumbers.{Walkable};
 ghost use Rattle.writer.specs.Text.{textOf};
-ghost use Rattle.writer.specs.Writing.{fitted, writingOf, writeOf, Writes};
+ghost use Rattle.writer.specs.Writing.{fitted, writeOf, Writes};
 
 // The text from the first byte on; over an empty buffer this tells its length.
 fn put_text(
@@ -31,10 +32,9 @@ fn put_text(
     occupancies: &[f64],
     counts: Room,
 ) -> usize
-    requires { ⌜ wellFormedIn (passed chains «residue_keys» «residue_names» «residue_codes» «residue_categories» «residue_positions»
-        «atom_keys» «atom_names» elements positions occupancies) counts ≡ true ⌝ }
+    requires { ⌜ Walkable (now chains) counts ⌝ }
     ensures { λ r. ⌜ (let l = lent chains «residue_keys» «residue_names» «residue_codes» «residue_categories» «residue_positions» «atom_keys» «atom_names» elements positions occupancies .entry in
-        Emits out 0 (textOf (modelIn l counts)) r) ⌝ }
+        wellFormedIn l counts ≡ true → Emits out 0 (textOf (modelIn l counts)) r) ⌝ }
 {
     let at = put_opening(out, 0);
     let at = put_polymer_list(
@@ -81,10 +81,9 @@ fn write_fitting(
     occupancies: &[f64],
     counts: Room,
 ) -> Answer
-    requires { ⌜ wellFormedIn (passed chains «residue_keys» «residue_names» «residue_codes» «residue_categories» «residue_positions»
-        «atom_keys» «atom_names» elements positions occupancies) counts ≡ true ⌝ }
+    requires { ⌜ Walkable (now chains) counts ⌝ }
     ensures { λ r. ⌜ (let l = lent chains «residue_keys» «residue_names» «residue_codes» «residue_categories» «residue_positions» «atom_keys» «atom_names» elements positions occupancies .entry in
-        Writes out (λ size. fitted size (textOf (modelIn l counts))) r) ⌝ }
+        wellFormedIn l counts ≡ true → Writes out (λ size. fitted size (textOf (modelIn l counts))) r) ⌝ }
 {
     let needed = put_text(
         &mut out[0..0],
@@ -138,10 +137,9 @@ fn write_writable(
     occupancies: &[f64],
     counts: Room,
 ) -> Answer
-    requires { ⌜ wellFormedIn (passed chains «residue_keys» «residue_names» «residue_codes» «residue_categories» «residue_positions»
-        «atom_keys» «atom_names» elements positions occupancies) counts ≡ true ⌝ }
+    requires { ⌜ Walkable (now chains) counts ⌝ }
     ensures { λ r. ⌜ (let l = lent chains «residue_keys» «residue_names» «residue_codes» «residue_categories» «residue_positions» «atom_keys» «atom_names» elements positions occupancies .entry in
-        Writes out (λ size. writingOf size (modelIn l counts)) r) ⌝ }
+        wellFormedIn l counts ≡ true → Writes out (writeOf l counts) r) ⌝ }
 {
     let atom = first_unwritable(
         chains,
@@ -177,7 +175,50 @@ fn write_writable(
     )
 }
 
-// 12: a model that is not well formed; and then the others in order.
+// A model that is known to be well formed, as one that was just read. Of any other it is only promised that this ends: the counts are
+// looked at, since the walks lean on them.
+pub fn write_well_formed(
+    chains: &[u64],
+    residue_keys: &[u64],
+    residue_names: &[u64],
+    residue_codes: &[u8],
+    residue_categories: &[u8],
+    residue_positions: &[u8],
+    atom_keys: &[u64],
+    atom_names: &[u64],
+    elements: &[u8],
+    positions: &[[f64; 3]],
+    occupancies: &[f64],
+    counts: Room,
+    out: &mut [u8],
+) -> Answer
+    ensures { λ r. ⌜ (let l = lent chains «residue_keys» «residue_names» «residue_codes» «residue_categories» «residue_positions» «atom_keys» «atom_names» elements positions occupancies .entry in
+        wellFormedIn l counts ≡ true → Writes out (writeOf l counts) r) ⌝ }
+{
+    if chains.len() < counts.chains {
+        return Answer::Refused(Reason::NotWellFormed);
+    }
+    if 1048576 < counts.atoms {
+        return Answer::Refused(Reason::NotWellFormed);
+    }
+    write_writable(
+        out,
+        chains,
+        residue_keys,
+        residue_names,
+        residue_codes,
+        residue_categories,
+        residue_positions,
+        atom_keys,
+        atom_names,
+        elements,
+        positions,
+        occupancies,
+        counts,
+    )
+}
+
+// 12: a model that is not well formed; of any other, 13 and 14.
 pub fn write_by_names(
     chains: &[u64],
     residue_keys: &[u64],
@@ -196,7 +237,7 @@ pub fn write_by_names(
     ensures { λ r. ⌜ (let l = lent chains «residue_keys» «residue_names» «residue_codes» «residue_categories» «residue_positions» «atom_keys» «atom_names» elements positions occupancies .entry in
         Writes out (writeOf l counts) r) ⌝ }
 {
-    if !is_well_formed(
+    if is_well_formed(
         chains,
         residue_keys,
         residue_names,
@@ -210,21 +251,21 @@ pub fn write_by_names(
         occupancies,
         counts,
     ) {
-        return Answer::Refused(Reason::NotWellFormed);
+        return write_well_formed(
+            chains,
+            residue_keys,
+            residue_names,
+            residue_codes,
+            residue_categories,
+            residue_positions,
+            atom_keys,
+            atom_names,
+            elements,
+            positions,
+            occupancies,
+            counts,
+            out,
+        );
     }
-    write_writable(
-        out,
-        chains,
-        residue_keys,
-        residue_names,
-        residue_codes,
-        residue_categories,
-        residue_positions,
-        atom_keys,
-        atom_names,
-        elements,
-        positions,
-        occupancies,
-        counts,
-    )
+    Answer::Refused(Reason::NotWellFormed)
 }

@@ -2,7 +2,7 @@
 use mathlib.Core.Path.{sym, _∙_}
 use Rattle.model.specs.Lent.{Lent, lentOf}
 use Rattle.readings.proofs.SlicesOfOneSize.{same-holding}
-use Rattle.service.proofs.ServingLaws.{serve-unread, serve-read}
+use Rattle.service.proofs.ServingLaws.{read-well, serve-unread, serve-read}
 use borrow.Author.Needs.{needs}
 use Rattle.service.proofs.serving.serve.Statement.{statement}
 use Rattle.service.proofs.serving.serve.Tie as tie
@@ -67,7 +67,12 @@ enum-known-answer-2 : tie.Need-enum-known-answer-2
 enum-known-answer-2 c = search needs
 
 write-out-requires : tie.Need-write-out-requires
-write-out-requires c κs = search needs
+write-out-requires c κs =
+    let p = c .before .before .before .before .before .before .before .before .before .before .before .before .before .before .before .before .before .before .before .before .before .before .before .before .before .before .before .before .before .before .before .before .before .before .before .before in
+    let t = p .before .before .before .before .before .before .before .before .before .before .before .before .before .before .before .before .before .before .before .before .before .before .before .before in
+    let answer = c .before .before .before .before .before .before .before .before .before .before .before .before .before .answer2 .given in
+    let r = p .read-by-names in
+    read-well (t .args .settings) (entry t) (t .args .text .now) (answer .0 .0) (left p) (sym (answer .1) ∙ r .ensures .0) (r .ensures .1)
 
 same-length : tie.Need-same-length
 same-length c = c .before .before .before .before .before .before .before .before .before .before .before .before .before .before .before .before .before .before .before .before .before .before .before .chains .given

@@ -1,6 +1,10 @@
 -- What the writer answers is served; on its refusal all records are cleared.
-use mathlib.Core.Path.{refl, _∙_, ap}
+use mathlib.Core.Path.{_≡_, refl, _∙_, ap}
+use mathlib.Core.Bool.{true}
+use Rattle.building.specs.Holds.{sizesOf}
 use Rattle.model.specs.Lent.{Lent, lentOf}
+use Rattle.model.specs.WellFormed.{wellFormedIn}
+use Rattle.model.specs.declared.room.Room.{Room}
 use Rattle.finishing.proofs.ClearingLaws.{none-left}
 use Rattle.finishing.proofs.GivenBack.{givenBack}
 use Rattle.service.proofs.ServingLaws.{put-out, put-nothing}
@@ -24,11 +28,15 @@ entry s =
     (s .args .positions .now)
     (s .args .occupancies .now)
 
+-- what was read is well formed
+well : (s : tie.Start) {sizes : Room} → sizes ≡ sizesOf (s .args .counts) → wellFormedIn (entry s) sizes ≡ true
+well s e = ap (wellFormedIn (entry s)) e ∙ s .pre
+
 sizes-of-requires : tie.Need-sizes-of-requires
 sizes-of-requires c κs = search needs
 
-write-by-names-requires : tie.Need-write-by-names-requires
-write-by-names-requires c κs = search needs
+write-well-formed-requires : tie.Need-write-well-formed-requires
+write-well-formed-requires c κs = search needs
 
 enum-known-written : tie.Need-enum-known-written
 enum-known-written c = search needs
@@ -85,8 +93,8 @@ returns : tie.Need-returns
 returns c =
     let t = c .before .before .before .before .before .before .before .before .before .before .before .before .before .before .before .before .before .before .before .before .before .before .before .before .before .before .before .before .before .before in
     let n = c .before .before .before .before .before .before .before .sizes-of in
-    let w = c .before .before .before .before .before .write-by-names in
-    put-out (entry t) (t .args .counts) (t .args .out .now) _ (n .ensures) _ _ (w .ensures) _ (c .before .written .given .1)
+    let w = c .before .before .before .before .before .write-well-formed in
+    put-out (entry t) (t .args .counts) (t .args .out .now) _ (n .ensures) _ _ (w .ensures (well t (n .ensures))) _ (c .before .written .given .1)
 
 same-length-13 : tie.Need-same-length-13
 same-length-13 c = c .before .before .before .before .before .before .before .before .before .before .before .before .before .before .before .before .before .before .before .before .before .before .before .before .before .before .before .before .before .before .before .before .before .before .before .before .before .before .before .out .given
@@ -128,9 +136,9 @@ returns-2 : tie.Need-returns-2
 returns-2 c =
     let t = c .before .before .before .before .before .before .before .before .before .before .before .before .before .before .before .before .before .before .before .before .before .before .before .before .before .before .before .before .before .before .before .before .before .before .before .before .before .before .before .before .before .before .before .before .before .before .before .before .before .before .before .before .before .before .before .before .before .before .before .before .before .before .before .before .before in
     let n = c .before .before .before .before .before .before .before .before .before .before .before .before .before .before .before .before .before .before .before .before .before .before .before .before .before .before .before .before .before .before .before .before .before .before .before .before .before .before .before .before .before .before .sizes-of in
-    let w = c .before .before .before .before .before .before .before .before .before .before .before .before .before .before .before .before .before .before .before .before .before .before .before .before .before .before .before .before .before .before .before .before .before .before .before .before .before .before .before .before .write-by-names in
+    let w = c .before .before .before .before .before .before .before .before .before .before .before .before .before .before .before .before .before .before .before .before .before .before .before .before .before .before .before .before .before .before .before .before .before .before .before .before .before .before .before .before .write-well-formed in
     let k = c .before .before .before .before .before .before .before .before .before .before .before .before .before .before .before .before .before .before .before in
-    put-nothing (entry t) (t .args .counts) (t .args .out .now) _ (n .ensures) _ _ (w .ensures) _ _ (c .before .before .before .before .before .before .before .before .before .before .before .before .before .before .before .before .before .before .before .before .before .before .before .before .before .before .before .before .before .before .before .before .before .before .before .before .written2 .given .1)
+    put-nothing (entry t) (t .args .counts) (t .args .out .now) _ (n .ensures) _ _ (w .ensures (well t (n .ensures))) _ _ (c .before .before .before .before .before .before .before .before .before .before .before .before .before .before .before .before .before .before .before .before .before .before .before .before .before .before .before .before .before .before .before .before .before .before .before .before .written2 .given .1)
     (ap (givenBack (k .clear-records .last)) (c .before .before .before .before .before .before .before .before .before .before .before .before .before .before .before .before .before .before .before .before .before .before .before .before .before .before .before .before .before .before .before .before .before .clear-u64-from .ensures)
     ∙ none-left (entry t) (givenBack (k .clear-records .last)) (k .before .no-records .ensures) (k .clear-records .ensures (t .args .chains .now)))
 
@@ -139,7 +147,7 @@ write-out-spec =
     tie.close
     (tie.spec
     sizes-of-requires
-    write-by-names-requires
+    write-well-formed-requires
     enum-known-written
     enum-known-written-2
     clear-u64-from-requires

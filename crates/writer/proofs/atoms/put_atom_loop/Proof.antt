@@ -27,7 +27,7 @@ returns c =
     let rows = end .before .before .before .before .before in
     let headers = rows .before .before .before .before in
     let s = headers .before .before .before .before .before .before .before .before .before .before .before .before .before in
-    then (headers .put-atom-headers .ensures) (then (rows .put-atom-rows .ensures) (λ _. end .put-word .ensures)) (s .good .0 .0)
+    λ well. then (headers .put-atom-headers .ensures) (then (rows .put-atom-rows .ensures well) (λ _. end .put-word .ensures)) (s .good .0 .0)
 
 pub put-atom-loop-spec : {M : Type 1} → statement M
 put-atom-loop-spec =

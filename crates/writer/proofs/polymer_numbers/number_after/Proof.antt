@@ -1,18 +1,12 @@
 -- Where the chains differ the count starts anew, and else it goes on.
-use mathlib.Core.Bool.{Bool, true, false}
-use Prim.Native.Nat.{_≤_}
 use native.Mathlib.Omega.{arith}
 use borrow.Author.Tests.{eq-eqb, ne-eqb}
-use Rattle.model.specs.Lists.{count}
 use Rattle.model.specs.Termini.{isPolymer}
 use Rattle.writer.specs.PolymerNumbers.{numberAfter}
+use Rattle.writer.proofs.WalkBounds.{at-most-one}
 use borrow.Author.Needs.{needs}
 use Rattle.writer.proofs.polymer_numbers.number_after.Statement.{statement}
 use Rattle.writer.proofs.polymer_numbers.number_after.Tie as tie
-
-at-most-one : (b : Bool) → count b ≤ 1
-at-most-one true = omega arith
-at-most-one false = omega arith
 
 count-of-requires : tie.Need-count-of-requires
 count-of-requires c κs = search needs

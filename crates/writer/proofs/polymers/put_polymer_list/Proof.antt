@@ -40,7 +40,7 @@ returns : tie.Need-returns
 returns c =
     let s = start (c .before) in
     let none = rows-none (alone (residue s) (s .args .n)) (all s) (sym (tested (c .before)) ∙ not-true _ (c .if1 .taken)) in
-    subst (λ (t : List ℕ). Emitted (s .args .out .now) (s .args .at) t (s .args .at) (s .args .out .now)) (ap polymerList (sym none)) (nothing (s .args .out .now) (s .args .at))
+    λ up. subst (λ (t : List ℕ). Emitted (s .args .out .now) (s .args .at) t (s .args .at) (s .args .out .now)) (ap polymerList (sym none)) (nothing (s .args .out .now) (s .args .at))
 
 put-polymer-headers-requires : tie.Need-put-polymer-headers-requires
 put-polymer-headers-requires c κs = search needs
@@ -66,8 +66,8 @@ returns-2 c =
     let p = headers .before .before .before in
     let s = start p in
     let some = rows-some (alone (residue s) (s .args .n)) (all s) (sym (tested p) ∙ not-false _ (headers .before .before .if1 .left)) in
-    subst (λ (t : List ℕ). Emitted (s .args .out .now) (s .args .at) t (end .put-word .result) (end .put-word .last .0)) (sym (list-some (polymersOf (all s)) some))
-    (then (headers .put-polymer-headers .ensures) (then (rows .put-polymer-rows .ensures) (λ _. end .put-word .ensures)) (s .good .0 .0))
+    λ up. subst (λ (t : List ℕ). Emitted (s .args .out .now) (s .args .at) t (end .put-word .result) (end .put-word .last .0)) (sym (list-some (polymersOf (all s)) some))
+    (then (headers .put-polymer-headers .ensures) (then (rows .put-polymer-rows .ensures up) (λ _. end .put-word .ensures)) (s .good .0 .0))
 
 pub put-polymer-list-spec : {M : Type 1} → statement M
 put-polymer-list-spec =

@@ -8,7 +8,7 @@ use Rattle.row_texts.specs.Emitted.{Emitted}
 use Rattle.row_texts.proofs.EmittedLaws.{then}
 use Rattle.writer.specs.Text.{linesText, opening, polymerList, atomLoop, atomRows, textOf}
 use Rattle.writer.proofs.RowsJoined.{polymers-by-residues}
-use Rattle.writer.proofs.WellFormedParts.{ascending, few-residues}
+use Rattle.writer.proofs.WellFormedParts.{ascending}
 use borrow.Author.Needs.{needs}
 use Rattle.writer.proofs.writing.put_text.Statement.{statement}
 use Rattle.writer.proofs.writing.put_text.Tie as tie
@@ -36,10 +36,7 @@ put-opening-requires : tie.Need-put-opening-requires
 put-opening-requires c κs = search needs
 
 put-polymer-list-requires : tie.Need-put-polymer-list-requires
-put-polymer-list-requires c κs =
-    let s = c .before .before .before .before .before .before .before .before .before .before .before .before .before .before .before .before in
-    let a = s .args in
-    (ascending (lent s) (a .counts) (s .pre), few-residues (lent s) (a .counts) (s .pre))
+put-polymer-list-requires c κs = search needs
 
 put-atom-loop-requires : tie.Need-put-atom-loop-requires
 put-atom-loop-requires c κs = search needs
@@ -55,8 +52,8 @@ returns c =
     let lines = polymers .before .before .before .before in
     let s = lines .before .before .before .before .before .before .before .before .before .before .before .before .before in
     let rows = polymers-by-residues (model s) (model s .residues) in
-    subst (λ (t : List ℕ). Emitted (s .args .out .now) 0 (linesText opening ++ (polymerList t ++ atomLoop (atomRows (model s) 1 (model s .atoms)))) (atoms .put-atom-loop .result) (atoms .put-atom-loop .last .0)) (sym rows)
-    (then (lines .put-opening .ensures) (then (polymers .put-polymer-list .ensures) (λ _. atoms .put-atom-loop .ensures)) (s .good .0 .0))
+    λ well. subst (λ (t : List ℕ). Emitted (s .args .out .now) 0 (linesText opening ++ (polymerList t ++ atomLoop (atomRows (model s) 1 (model s .atoms)))) (atoms .put-atom-loop .result) (atoms .put-atom-loop .last .0)) (sym rows)
+    (then (lines .put-opening .ensures) (then (polymers .put-polymer-list .ensures (ascending (lent s) (s .args .counts) well)) (λ _. atoms .put-atom-loop .ensures well)) (s .good .0 .0))
 
 pub put-text-spec : {M : Type 1} → statement M
 put-text-spec =

@@ -1,9 +1,11 @@
 -- An unwritable atom is refused; where there is none, what is written is the text, if it fits.
-use mathlib.Core.Path.{subst}
+use mathlib.Core.Path.{_∙_, subst}
+use Rattle.refusals.specs.declared.reasons.Reason.the-variants.{CannotBeWritten}
 use Rattle.model.specs.Lent.{Lent, lentOf, modelIn}
 use Rattle.model.specs.Records.{Model}
 use Rattle.writer.specs.Writing.{Writing, Wrote}
-use Rattle.writer.proofs.WritingLaws.{unwritable, writable}
+use Rattle.writer.specs.declared.answers.Answer.{Answer}
+use Rattle.writer.proofs.WritingLaws.{unwritable, writable, well-formed}
 use borrow.Author.Needs.{needs}
 use Rattle.writer.proofs.writing.write_writable.Statement.{statement}
 use Rattle.writer.proofs.writing.write_writable.Tie as tie
@@ -33,7 +35,9 @@ first-unwritable-requires c κs = search needs
 returns : tie.Need-returns
 returns c =
     let s = c .before .before .before .before .before .before .before .before .before .before .before .before .before in
-    unwritable (s .args .out .now) (model s) _ (c .before .first-unwritable .ensures) (c .if1 .taken)
+    let out = s .args .out .now in
+    λ well. subst (λ (w : Writing). Wrote out w (Answer.Refused (CannotBeWritten (c .before .first-unwritable .result))) out) (well-formed out (lent s) (s .args .counts) well)
+    (unwritable out (model s) _ (c .before .first-unwritable .ensures well) (c .if1 .taken))
 
 write-fitting-requires : tie.Need-write-fitting-requires
 write-fitting-requires c κs = search needs
@@ -46,7 +50,10 @@ returns-2 c =
     let fitting = c .before .before in
     let none = fitting .before .before in
     let s = none .before .before .before .before .before .before .before .before .before .before .before .before .before in
-    subst (λ (w : Writing). Wrote (s .args .out .now) w (fitting .write-fitting .result) (fitting .write-fitting .last .0)) (writable (s .args .out .now) (model s) _ (none .before .first-unwritable .ensures) (none .if1 .left)) (fitting .write-fitting .ensures)
+    let out = s .args .out .now in
+    λ well. subst (λ (w : Writing). Wrote out w (fitting .write-fitting .result) (fitting .write-fitting .last .0))
+    (writable out (model s) _ (none .before .first-unwritable .ensures well) (none .if1 .left) ∙ well-formed out (lent s) (s .args .counts) well)
+    (fitting .write-fitting .ensures well)
 
 pub write-writable-spec : {M : Type 1} → statement M
 write-writable-spec =
