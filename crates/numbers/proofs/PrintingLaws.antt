@@ -2,14 +2,15 @@
 use mathlib.Core.Path.{_≡_, refl, sym, ap, _∙_}
 use mathlib.Core.List.{List, [], _∷_, _++_}
 use mathlib.Core.Bool.{Bool, true, false, cond}
+use mathlib.Core.Logic.{_⊎_, inl, inr}
 use Prim.Native.Nat.{ℕ, zero, suc, _+_, _-_, _/_, _%_, _^_, _≤_, _<_}
-use native.Mathlib.Nat.{le-refl, pow-suc, zero-lt-suc, div-lt-iff-lt-mul}
+use native.Mathlib.Nat.{le-refl, le-trans, le-antisymm, lt-irrefl, lt-of-lt-of-le, le-of-suc-le-suc, pow-suc, zero-lt-suc, div-lt-iff-lt-mul}
 use native.Mathlib.Numerals.{add-one}
 use native.Mathlib.Omega.{arith}
 use lib.Dec.{T, ltb, ltb→lt, lit<, lit≤}
 use lib.ListN.{length, set, length-append}
 use lib.Seq.{sets}
-use borrow.Author.Tests.{lt-ltb, le-ltb}
+use borrow.Author.Tests.{lt-ltb}
 use Rattle.ascii.proofs.OutputLaws.{sets-last}
 use lib.Ieee.{Float}
 use Rattle.ascii.specs.declared.output.Placed.{Placed}
@@ -18,6 +19,8 @@ use Rattle.numbers.specs.declared.printing.Printed.the-variants.{BeyondR
 use Rattle.numbers.specs.Rounding.{printable, unitsOf, isNegative}
 use Rattle.numbers.specs.Printing.{lastDigits, countUpTo, digitCount, sign, fixedText, textOf}
 use Rattle.numbers.specs.Writing.{printedOf, afterPrinting}
+use Rattle.numbers.proofs.Comparing.{le-or-lt}
+use Rattle.numbers.proofs.PowerLaws.{ten-grows}
 
 -- ---- how many digits
 pub count-end : (k n : ℕ) → n < 10 → countUpTo k n ≡ 1
@@ -25,12 +28,8 @@ unfolding countUpTo
 count-end zero n h = refl
 count-end (suc k) n h = simp (lt-ltb n 10 h)
 
-pub count-more : (j k n : ℕ) → j ≡ suc k → 10 ≤ n → countUpTo j n ≡ suc (countUpTo k (n / 10))
-unfolding countUpTo
-count-more j k n e h = rw e (simp (le-ltb n 10 h))
-
 -- a tenth of a number has a digit less
-pub tenth : (n j k : ℕ) → j ≡ suc k → n < 10 ^ j → n / 10 < 10 ^ k
+tenth : (n j k : ℕ) → j ≡ suc k → n < 10 ^ j → n / 10 < 10 ^ k
 tenth n j k e h = div-lt-iff-lt-mul (zero-lt-suc 9) .1 (rw pow-suc at (rw e at h))
 
 pub count-fits : (k n : ℕ) → countUpTo k n ≤ k + 1
@@ -70,6 +69,18 @@ count-some (suc k) n = go (ltb n 10) (countUpTo k (n / 10))
     go : (t : Bool) (c : ℕ) → 0 < cond t 1 (suc c)
     go true c = lit< tt
     go false c = zero-lt-suc c
+
+-- by the powers of ten that a number lies between
+pub count-is : (n j : ℕ) → j ≤ 19 → 10 ^ j ≤ n → n < 10 ^ suc j → suc j ≡ digitCount n
+unfolding digitCount
+count-is n j few lo hi = le-antisymm (go (le-or-lt (suc j) (countUpTo 19 n))) (count-few 19 j n hi)
+  where
+    enough : n < 10 ^ countUpTo 19 n
+    enough = count-enough 19 n (lt-of-lt-of-le hi (ten-grows (suc j) 20 (omega arith)))
+
+    go : (suc j ≤ countUpTo 19 n) ⊎ (countUpTo 19 n < suc j) → suc j ≤ countUpTo 19 n
+    go (inl h) = h
+    go (inr h) = absurd (lt-irrefl n (lt-of-lt-of-le enough (le-trans (ten-grows (countUpTo 19 n) j (le-of-suc-le-suc h)) lo)))
 
 pub digit-count-fits : (n : ℕ) → digitCount n ≤ 20
 unfolding digitCount

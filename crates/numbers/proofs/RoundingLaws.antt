@@ -1,7 +1,8 @@
 -- The units of a printable double, from its bits: they are significand * 10 ^ places over 2 ^ (1074 - exponent), to the nearest whole number.
-use mathlib.Core.Path.{_≡_, sym, ap, _∙_}
-use Prim.Native.Nat.{ℕ, zero, suc, _+_, _-_, _*_, _%_, _^_, _≤_, _<_, compare}
-use native.Mathlib.Nat.{le-trans, le-of-eq, lt-irrefl, lt-of-le-of-lt, mul-assoc, mul-right-comm, mul-le-mul-right, mul-le-mul-left, le-of-mul-le-mul-right, eq-of-mul-eq-mul-right, div-eq-of-lt, mod-eq-of-lt, le-add-right, one-mul}
+use mathlib.Core.Path.{_≡_, sym, ap, _∙_, subst}
+use Prim.Native.Nat.{ℕ, zero, suc, _+_, _-_, _*_, _/_, _%_, _^_, _≤_, _<_, compare}
+use native.Mathlib.Nat.{le-trans, le-of-eq, lt-irrefl, lt-of-le-of-lt, mul-assoc, mul-right-comm, mul-le-mul-right, mul-le-mul-left, le-of-mul-le-mul-right, eq-of-mul-eq-mul-right, div-eq-of-lt, div-mul-le-self, div-add-mod', mod-eq-of-lt, mod-lt, le-add-right, one-mul}
+use native.Mathlib.Numerals.{add-one}
 use native.Mathlib.Omega.{arith}
 use mathlib.Core.Bool.{Bool, true, false, not}
 use lib.Dec.{T, leb, leb→le, nleb→lt, lit<}
@@ -14,8 +15,7 @@ use lib.Ieee.Scale.{finite}
 use Rattle.numbers.specs.Bits.{exponentField, significandAt, exponentAt, significandOf, exponentOf}
 use Rattle.numbers.specs.Rounding.{printable, unitsOf, isNegative}
 use Rattle.numbers.proofs.BitsLaws.{bits-value}
-use Rattle.numbers.proofs.Comparing.{nearest-lt}
-use Rattle.numbers.proofs.PowerLaws.{ten-grows}
+use Rattle.numbers.proofs.Comparing.{nearest-lt, nearest-gt, nearest-eq}
 
 -- ---- what is printable is finite, and not too far
 pub printable-finite : (x : Float) → T (printable x) → T (finite x)
@@ -94,12 +94,6 @@ units-from places x m p k h r M P K =
     ∙ ap (λ (z : ℕ). closest (significandOf (toBits binary64 x) * 10 ^ places) (2 ^ (1074 - z))) K
     ∙ sym (bits-units places x h r)
 
-pub product-fits : (m p places : ℕ) → m < 9007199254740992 → p ≡ 10 ^ places → places ≤ 3 → m * p < 9223372036854775808
-product-fits m p places h e k = lt-of-le-of-lt (mul-le-mul-left m (le-trans (le-of-eq e) (ten-grows places 3 k))) (less m h)
-  where
-    less : (m : ℕ) → m < 9007199254740992 → m * 1000 < 9223372036854775808
-    less m h = omega arith
-
 -- less than half a unit is none
 pub closest-zero : (n d : ℕ) → n * 2 < d → closest n d ≡ 0
 closest-zero n d h =
@@ -120,6 +114,30 @@ value-sign (fin t m e) s a c v = sym (v .0)
 pub bits-sign : (x : Float) → T (fits binary64 x) → T (printable x) → leb (2 ^ 63) (toBits binary64 x) ≡ isNegative x
 bits-sign x h k = value-sign x _ _ _ (bits-value x h (printable-finite x k))
 
--- ---- 1 << n
+-- ---- shifts
 pub shifted-one : (n : ℕ) → n < 64 → 1 * 2 ^ n % 18446744073709551616 ≡ 2 ^ n
 shifted-one n h = ap (λ (z : ℕ). z % 18446744073709551616) (one-mul (2 ^ n)) ∙ mod-eq-of-lt (pow-lt h)
+
+-- a number shifted to the right and back is what its last k bits leave of it
+pub shifted-back : (n k : ℕ) → n < 9223372036854775808 → n / 2 ^ k * 2 ^ k % 18446744073709551616 + n % 2 ^ k ≡ n
+shifted-back n k h = ap (λ (z : ℕ). z + n % 2 ^ k) (mod-eq-of-lt (lt-of-le-of-lt (div-mul-le-self n (2 ^ k)) (more n h))) ∙ div-add-mod' n (2 ^ k)
+  where
+    more : (z : ℕ) → z < 9223372036854775808 → z < 18446744073709551616
+    more z h = omega arith
+
+-- ---- which of the two whole numbers beside n / 2 ^ k, by its remainder and what that lacks to the divisor, as the code has them
+module _ (n k d r : ℕ) (D : d ≡ 2 ^ k) (R : r ≡ n % 2 ^ k) where
+  pub remains-less : r < d
+  remains-less = subst (λ (z : ℕ). r < z) (sym D) (subst (λ (z : ℕ). z < 2 ^ k) (sym R) (mod-lt n (pow-pos k)))
+
+  twice : (P : ℕ → ℕ → Type 0) → P (r * 2) d → P (n % 2 ^ k * 2) (2 ^ k)
+  twice P h = subst (λ (z : ℕ). P (n % 2 ^ k * 2) z) D (subst (λ (z : ℕ). P (z * 2) d) R h)
+
+  pub closest-below : r < d - r → n / 2 ^ k ≡ closest n (2 ^ k)
+  closest-below h = sym (nearest-lt (n / 2 ^ k) (n % 2 ^ k * 2) (2 ^ k) (twice (λ a b. a < b) (omega (arith, remains-less))))
+
+  pub closest-above : d - r < r → n / 2 ^ k + 1 ≡ closest n (2 ^ k)
+  closest-above h = add-one (n / 2 ^ k) ∙ sym (nearest-gt (n / 2 ^ k) (n % 2 ^ k * 2) (2 ^ k) (twice (λ a b. b < a) (omega (arith, remains-less))))
+
+  pub closest-between : d - r ≤ r → r ≤ d - r → n / 2 ^ k + n / 2 ^ k % 2 ≡ closest n (2 ^ k)
+  closest-between h j = sym (nearest-eq (n / 2 ^ k) (n % 2 ^ k * 2) (2 ^ k) (twice (λ a b. a ≡ b) (omega (arith, remains-less))))

@@ -8,7 +8,7 @@ use native.Mathlib.Omega.{arith}
 use lib.ListN.{length, getD, take, drop, length-drop}
 use lib.Seq.{length-take-le, take-length}
 use Rattle.ascii.specs.Digits.{digitRun, numberFrom}
-use Rattle.numbers.specs.Grammar.{digits, decimal, unsigned}
+use Rattle.numbers.specs.Grammar.{digits, unsigned}
 use Rattle.numbers.specs.Reading.{allTogether, valueOf, readAs}
 use Rattle.numbers.proofs.DecimalLaws.{unsigned-whole, unsigned-pointed}
 use Rattle.numbers.proofs.ReadingLaws.{read-few}

@@ -1,4 +1,6 @@
 // How many bytes a number's text has: a whole number's digits, or a double's sign, whole number, point and places.
+use crate::rounding::PLACES;
+use crate::rounding::UNITS_IN_ONE;
 use crate::rounding::is_negative;
 use crate::rounding::is_printable;
 use crate::rounding::units;
@@ -13,13 +15,28 @@ ghost use Rattle.numbers.specs.Printing.{lastDigits, digitCount, sign, t
 pub(crate) fn digit_count(n: u64) -> usize
     ensures { λ r. ⌜ r ≡ digitCount n ⌝ }
 {
-    let mut rest = n;
-    let mut count = 1;
-    while 10 <= rest {
-        rest = rest / 10;
-        count += 1;
+    match n {
+        ..=9 => 1,
+        ..=99 => 2,
+        ..=999 => 3,
+        ..=9_999 => 4,
+        ..=99_999 => 5,
+        ..=999_999 => 6,
+        ..=9_999_999 => 7,
+        ..=99_999_999 => 8,
+        ..=999_999_999 => 9,
+        ..=9_999_999_999 => 10,
+        ..=99_999_999_999 => 11,
+        ..=999_999_999_999 => 12,
+        ..=9_999_999_999_999 => 13,
+        ..=99_999_999_999_999 => 14,
+        ..=999_999_999_999_999 => 15,
+        ..=9_999_999_999_999_999 => 16,
+        ..=99_999_999_999_999_999 => 17,
+        ..=999_999_999_999_999_999 => 18,
+        ..=9_999_999_999_999_999_999 => 19,
+        _ => 20,
     }
-    count
 }
 
 fn sign_length(negative: bool) -> usize
@@ -29,11 +46,11 @@ fn sign_length(negative: bool) -> usize
 }
 
 // A sign or none, a whole number of so many digits, a point and the places.
-pub(crate) fn fixed_length(negative: bool, count: usize, places: usize) -> usize
-    requires { ⌜ (count ≤ 20) × (places ≤ 3) ⌝ }
-    ensures { λ r. ⌜ r ≡ length (sign negative) + count + 1 + places ⌝ }
+pub(crate) fn fixed_length(negative: bool, count: usize) -> usize
+    requires { ⌜ count ≤ 20 ⌝ }
+    ensures { λ r. ⌜ r ≡ length (sign negative) + count + 1 + 3 ⌝ }
 {
-    sign_length(negative) + count + 1 + places
+    sign_length(negative) + count + 1 + PLACES
 }
 
 // How many bytes a whole number's text has.
@@ -50,7 +67,6 @@ pub fn thousandths_length(x: f64) -> usize
     if !is_printable(x) {
         return 0;
     }
-    let n = units(x, 3);
-    let count = digit_count(n / 1000);
-    fixed_length(is_negative(x), count, 3)
+    let count = digit_count(units(x) / UNITS_IN_ONE);
+    fixed_length(is_negative(x), count)
 }

@@ -1,7 +1,8 @@
 // A number's text put at a place of a lent buffer: a whole number's digits, or a double's sign, whole number, point and places.
 use crate::lengths::digit_count;
 use crate::lengths::fixed_length;
-use crate::powers::power_of_ten;
+use crate::rounding::PLACES;
+use crate::rounding::UNITS_IN_ONE;
 use crate::rounding::is_negative;
 use crate::rounding::is_printable;
 use crate::rounding::units;
@@ -59,53 +60,37 @@ fn put_sign(out: &mut [u8], at: usize, negative: bool) -> usize
 }
 
 // A sign or none, a whole number of so many digits, a point and the places, where there is room for them.
-fn put_parts(
-    out: &mut [u8],
-    at: usize,
-    negative: bool,
-    count: usize,
-    whole: u64,
-    places: usize,
-    n: u64,
-) -> usize
-    requires { ⌜ at + (length (sign negative) + count + 1 + places) ≤ length (now out) ⌝ }
-    ensures { λ r. ⌜ Stored (now (out .entry)) at (sign negative ++ (lastDigits count whole ++ (46 ∷ lastDigits places n))) (now (out .exit)) r ⌝ }
+fn put_parts(out: &mut [u8], at: usize, negative: bool, count: usize, whole: u64, n: u64) -> usize
+    requires { ⌜ at + (length (sign negative) + count + 1 + 3) ≤ length (now out) ⌝ }
+    ensures { λ r. ⌜ Stored (now (out .entry)) at (sign negative ++ (lastDigits count whole ++ (46 ∷ lastDigits 3 n))) (now (out .exit)) r ⌝ }
 {
     let digits = put_sign(out, at, negative);
     let point = put_digits(out, digits, count, whole);
     out[point] = b'.';
-    put_digits(out, point + 1, places, n)
+    put_digits(out, point + 1, PLACES, n)
 }
 
 // Puts n units of the last place, with a sign or not, where they fit.
-fn put_fixed(out: &mut [u8], at: usize, negative: bool, places: usize, n: u64) -> Placed
-    requires { ⌜ places ≤ 3 ⌝ }
-    ensures { λ r. ⌜ (r ≡ placedOf (now (out .entry)) at (fixedText places negative n)) × (now (out .exit) ≡ bufferAfter (now (out .entry)) at (fixedText places negative n)) ⌝ }
+fn put_fixed(out: &mut [u8], at: usize, negative: bool, n: u64) -> Placed
+    ensures { λ r. ⌜ (r ≡ placedOf (now (out .entry)) at (fixedText 3 negative n)) × (now (out .exit) ≡ bufferAfter (now (out .entry)) at (fixedText 3 negative n)) ⌝ }
 {
-    let whole = n / power_of_ten(places);
+    let whole = n / UNITS_IN_ONE;
     let count = digit_count(whole);
-    let length = fixed_length(negative, count, places);
+    let length = fixed_length(negative, count);
     if !ascii::fits_at(out.len(), at, length) {
         return Placed::NoRoom(length);
     }
-    Placed::Next(put_parts(out, at, negative, count, whole, places, n))
-}
-
-fn write_fixed(out: &mut [u8], at: usize, x: f64, places: usize) -> Printed
-    requires { ⌜ places ≤ 3 ⌝ }
-    ensures { λ r. ⌜ (r ≡ printedOf places x (now (out .entry)) at) × (now (out .exit) ≡ afterPrinting places x (now (out .entry)) at) ⌝ }
-{
-    if !is_printable(x) {
-        return Printed::BeyondReach;
-    }
-    let negative = is_negative(x);
-    let n = units(x, places);
-    Printed::Put(put_fixed(out, at, negative, places, n))
+    Placed::Next(put_parts(out, at, negative, count, whole, n))
 }
 
 // Puts a double's text with three places into the buffer from index at on.
 pub fn write_thousandths(out: &mut [u8], at: usize, x: f64) -> Printed
     ensures { λ r. ⌜ (r ≡ printedOf 3 x (now (out .entry)) at) × (now (out .exit) ≡ afterPrinting 3 x (now (out .entry)) at) ⌝ }
 {
-    write_fixed(out, at, x, 3)
+    if !is_printable(x) {
+        return Printed::BeyondReach;
+    }
+    let negative = is_negative(x);
+    let n = units(x);
+    Printed::Put(put_fixed(out, at, negative, n))
 }

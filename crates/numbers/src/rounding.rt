@@ -1,11 +1,15 @@
-// A double to so many places: its exact value, taken from its bits, to the nearest unit of the last place.
-use crate::powers::power_of_ten;
+// A double to three places: its exact value, taken from its bits, to the nearest unit of the last place.
 ghost use mathlib.Core.Path.{_≡_};
-ghost use Prim.Native.Nat.{_≤_, _<_};
+ghost use Prim.Native.Nat.{_<_, _^_};
 ghost use lib.Dec.{T};
 ghost use lib.Ieee.Nearest.{closest};
 ghost use Rattle.numbers.specs.Bits.{significandOf, exponentOf};
 ghost use Rattle.numbers.specs.Rounding.{printable, unitsOf, isNegative};
+
+// The places that a double is printed with, and how many units of the last one are in 1.
+pub(crate) const PLACES: usize = 3;
+
+pub(crate) const UNITS_IN_ONE: u64 = 1000;
 
 // The bit of the sign, and the bit above the fraction's 52.
 const SIGN: u64 = 9223372036854775808;
@@ -44,13 +48,14 @@ fn exponent(bits: u64) -> u64
     field - 1
 }
 
-// n / d to the nearest whole number, ties to even.
-fn nearest_quotient(n: u64, d: u64) -> u64
-    requires { ⌜ (0 < d) × (n < 9223372036854775808) ⌝ }
-    ensures { λ r. ⌜ r ≡ closest n d ⌝ }
+// n / 2 ^ k to the nearest whole number, ties to even.
+fn nearest_shifted(n: u64, k: u64) -> u64
+    requires { ⌜ (k < 64) × (n < 9223372036854775808) ⌝ }
+    ensures { λ r. ⌜ r ≡ closest n (2 ^ k) ⌝ }
 {
-    let q = n / d;
-    let r = n % d;
+    let d = 1u64 << k;
+    let q = n >> k;
+    let r = n - (q << k);
     if r < d - r {
         return q;
     }
@@ -61,18 +66,18 @@ fn nearest_quotient(n: u64, d: u64) -> u64
 }
 
 // The magnitude in units of the last place.
-pub(crate) fn units(x: f64, places: usize) -> u64
-    requires { ⌜ T (printable x) × (places ≤ 3) ⌝ }
-    ensures { λ r. ⌜ r ≡ unitsOf places x ⌝ }
+pub(crate) fn units(x: f64) -> u64
+    requires { ⌜ T (printable x) ⌝ }
+    ensures { λ r. ⌜ r ≡ unitsOf 3 x ⌝ }
 {
     let bits = f64::to_bits(x);
-    let n = significand(bits) * power_of_ten(places);
+    let n = significand(bits) * UNITS_IN_ONE;
     let e = exponent(bits);
     // so small that less than half a unit is left
     if e < 1011 {
         return 0;
     }
-    nearest_quotient(n, 1u64 << (1074 - e))
+    nearest_shifted(n, 1074 - e)
 }
 
 // The bit decides, so that -0.0 has its minus sign.

@@ -1,57 +1,94 @@
--- What has been counted and what the rest still counts add up to the count; each turn leaves a tenth, so twenty digits are enough.
-use mathlib.Core.Path.{_≡_, subst}
-use mathlib.Core.Logic.{_⊎_, inl, inr}
-use Prim.Native.Nat.{ℕ, suc, _+_, _-_, _/_, _^_, _≤_, _<_}
+-- The tests on the way to an arm say between which powers of ten the number lies.
+use mathlib.Core.Path.{sym}
 use native.Mathlib.Omega.{arith}
-use borrow.Author.Needs.{needs}
-use Rattle.numbers.specs.Printing.{countUpTo, digitCount}
-use Rattle.numbers.proofs.Comparing.{le-or-lt}
-use Rattle.numbers.proofs.PrintingLaws.{count-end, count-more, tenth}
+use lib.Dec.{lit≤}
+use Rattle.numbers.specs.Printing.{digitCount}
+use Rattle.numbers.proofs.PrintingLaws.{count-end, count-is}
 use Rattle.numbers.proofs.lengths.digit_count.Statement.{statement}
 use Rattle.numbers.proofs.lengths.digit_count.Tie as tie
 
-abbrev Inv-loop : tie.InvT-loop
-Inv-loop n rest₀ count₀ rest count = (1 ≤ count) × ((count ≤ 20) × ((rest < 10 ^ (21 - count)) × (digitCount n + 1 ≡ count + countUpTo (20 - count) rest)))
-
-abbrev μ-loop : tie.MeasureT-loop
-μ-loop n rest₀ count₀ rest count = rest
-
--- a number of more than one digit is not the twentieth
-within : (count rest : ℕ) → rest < 10 ^ (21 - count) → count ≤ 20 → 10 ≤ rest → 20 - count ≡ suc (20 - (count + 1))
-within count rest h k l = go (le-or-lt 20 count)
-  where
-    go : (20 ≤ count) ⊎ (count < 20) → 20 - count ≡ suc (20 - (count + 1))
-    go (inl g) = absurd (never (subst (λ (x : ℕ). rest < 10 ^ x) (last g) h))
-      where
-        last : 20 ≤ count → 21 - count ≡ 1
-        last g = omega arith
-
-        never : rest < 10 ^ 1 → ⊥
-        never m = omega arith
-    go (inr g) = omega arith
-
-loop-holds : tie.Need-loop-holds Inv-loop μ-loop
+returns : tie.Need-returns
 unfolding digitCount
-loop-holds c = (search needs, (search needs, (search needs, omega arith)))
+returns c = sym (count-end 19 _ (c .if3 .taken))
 
-add-count : tie.Need-add-count Inv-loop μ-loop
-add-count c = search needs
+returns-2 : tie.Need-returns-2
+returns-2 c = count-is _ 1 (lit≤ tt) (c .before .if3 .left) (c .if4 .taken)
 
-loop-less : tie.Need-loop-less Inv-loop μ-loop
-loop-less c = search needs
+returns-3 : tie.Need-returns-3
+returns-3 c = count-is _ 2 (lit≤ tt) (c .before .if4 .left) (c .if5 .taken)
 
-loop-again : tie.Need-loop-again Inv-loop μ-loop
-loop-again c =
-    let count = c .before .loop .count in
-    let rest = c .before .loop .rest in
-    let room : 20 - count ≡ suc (20 - (count + 1)) = within count rest (c .before .loop .inv .1 .1 .0) (c .before .loop .inv .1 .0) (c .loop-test .taken) in
-    let wider : 21 - count ≡ suc (21 - (count + 1)) = omega arith in
-    let more : countUpTo (20 - count) rest ≡ suc (countUpTo (20 - (count + 1)) (rest / 10)) = count-more (20 - count) (20 - (count + 1)) rest room (c .loop-test .taken) in
-    (omega arith, (omega arith, (tenth rest (21 - count) (21 - (count + 1)) wider (c .before .loop .inv .1 .1 .0), omega arith)))
+returns-4 : tie.Need-returns-4
+returns-4 c = count-is _ 3 (lit≤ tt) (c .before .if5 .left) (c .if6 .taken)
 
-returns : tie.Need-returns Inv-loop μ-loop
-returns c = omega (arith, count-end (20 - c .before .loop .count) (c .before .loop .rest) (omega arith))
+returns-5 : tie.Need-returns-5
+returns-5 c = count-is _ 4 (lit≤ tt) (c .if6 .left) (c .before .before .before .before .if2 .taken)
+
+returns-6 : tie.Need-returns-6
+returns-6 c = count-is _ 5 (lit≤ tt) (c .before .if2 .left) (c .if7 .taken)
+
+returns-7 : tie.Need-returns-7
+returns-7 c = count-is _ 6 (lit≤ tt) (c .before .if7 .left) (c .if8 .taken)
+
+returns-8 : tie.Need-returns-8
+returns-8 c = count-is _ 7 (lit≤ tt) (c .before .if8 .left) (c .if9 .taken)
+
+returns-9 : tie.Need-returns-9
+returns-9 c = count-is _ 8 (lit≤ tt) (c .before .if9 .left) (c .if10 .taken)
+
+returns-10 : tie.Need-returns-10
+returns-10 c = count-is _ 9 (lit≤ tt) (c .if10 .left) (c .before .before .before .before .before .if1 .taken)
+
+returns-11 : tie.Need-returns-11
+returns-11 c = count-is _ 10 (lit≤ tt) (c .before .before .if1 .left) (c .if12 .taken)
+
+returns-12 : tie.Need-returns-12
+returns-12 c = count-is _ 11 (lit≤ tt) (c .before .if12 .left) (c .if13 .taken)
+
+returns-13 : tie.Need-returns-13
+returns-13 c = count-is _ 12 (lit≤ tt) (c .before .if13 .left) (c .if14 .taken)
+
+returns-14 : tie.Need-returns-14
+returns-14 c = count-is _ 13 (lit≤ tt) (c .before .if14 .left) (c .if15 .taken)
+
+returns-15 : tie.Need-returns-15
+returns-15 c = count-is _ 14 (lit≤ tt) (c .if15 .left) (c .before .before .before .before .if11 .taken)
+
+returns-16 : tie.Need-returns-16
+returns-16 c = count-is _ 15 (lit≤ tt) (c .before .if11 .left) (c .if16 .taken)
+
+returns-17 : tie.Need-returns-17
+returns-17 c = count-is _ 16 (lit≤ tt) (c .before .if16 .left) (c .if17 .taken)
+
+returns-18 : tie.Need-returns-18
+returns-18 c = count-is _ 17 (lit≤ tt) (c .before .if17 .left) (c .if18 .taken)
+
+returns-19 : tie.Need-returns-19
+returns-19 c = count-is _ 18 (lit≤ tt) (c .before .if18 .left) (c .if19 .taken)
+
+returns-20 : tie.Need-returns-20
+returns-20 c = count-is _ 19 (lit≤ tt) (c .if19 .left) (omega arith)
 
 pub digit-count-spec : {M : Type 1} → statement M
 digit-count-spec =
-    tie.close (tie.spec Inv-loop μ-loop loop-holds add-count loop-less loop-again returns)
+    tie.close
+    (tie.spec
+    returns
+    returns-2
+    returns-3
+    returns-4
+    returns-5
+    returns-6
+    returns-7
+    returns-8
+    returns-9
+    returns-10
+    returns-11
+    returns-12
+    returns-13
+    returns-14
+    returns-15
+    returns-16
+    returns-17
+    returns-18
+    returns-19
+    returns-20)

@@ -23,7 +23,7 @@ add-result-3 : tie.Need-add-result-3
 add-result-3 c = omega (arith, few c)
 
 returns : tie.Need-returns
-returns c = ap (λ (k : ℕ). k + c .before .args .count + 1 + c .before .args .places) (c .sign-length .ensures)
+returns c = ap (λ (k : ℕ). k + c .before .args .count + 1 + 3) (c .sign-length .ensures)
 
 pub fixed-length-spec : {M : Type 1} → statement M
 fixed-length-spec = tie.close (tie.spec sign-length-requires add-result add-result-2 add-result-3 returns)

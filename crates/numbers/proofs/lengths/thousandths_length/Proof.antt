@@ -23,7 +23,7 @@ returns : tie.Need-returns
 returns c = (λ yes. absurd (true≢false (sym yes ∙ none c)), λ no. refl)
 
 units-requires : tie.Need-units-requires
-units-requires c κs = (subst T (sym (some c)) tt, search needs)
+units-requires c κs = subst T (sym (some c)) tt
 
 digit-count-requires : tie.Need-digit-count-requires
 digit-count-requires c κs = search needs
@@ -32,7 +32,7 @@ is-negative-requires : tie.Need-is-negative-requires
 is-negative-requires c κs = subst T (sym (some (c .before .before))) tt
 
 fixed-length-requires : tie.Need-fixed-length-requires
-fixed-length-requires c κs = (rw (c .before .digit-count .ensures) (digit-count-fits _), search needs)
+fixed-length-requires c κs = rw (c .before .digit-count .ensures) (digit-count-fits _)
 
 returns-2 : tie.Need-returns-2
 returns-2 c = (

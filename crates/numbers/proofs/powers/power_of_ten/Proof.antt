@@ -1,5 +1,4 @@
 -- Each arm of the match is one power; what is left after fifteen of them, and is at most 15, is 15.
-use mathlib.Core.Path.{_≡_}
 use native.Mathlib.Nat.{le-antisymm}
 use Rattle.numbers.proofs.PowerLaws.{ten-at, passed}
 use Rattle.numbers.proofs.powers.power_of_ten.Statement.{statement}

@@ -1,6 +1,6 @@
 -- The test is the definition's, and the quotient is of the two numbers in it.
 use mathlib.Core.Path.{sym, ap, _∙_}
-use Prim.Native.Nat.{ℕ, _^_}
+use Prim.Native.Nat.{ℕ}
 use native.Mathlib.Omega.{arith}
 use lib.Ieee.{binary64, round}
 use borrow.Author.Needs.{needs}
