@@ -2,89 +2,27 @@
 use mathlib.Core.Path.{_≡_}
 use mathlib.Core.Bool.{Bool, true, false, cond}
 use mathlib.Core.List.{List, [], _∷_, _++_}
-use Prim.Native.Nat.{ℕ, suc, _+_, _-_, _*_, _/_, _^_, _≤_, _<_}
+use Prim.Native.Nat.{ℕ, suc, _+_, _*_, _^_, _≤_, _<_}
 use native.Mathlib.Omega.{arith}
-use lib.Dec.{eqb, ltb}
-use lib.Ieee.{Float}
 use lib.ListN.{length, length-append}
 use Rattle.ascii.specs.Bytes.{byte, bytes}
-use Rattle.numbers.specs.Printing.{lastDigits, digitCount, sign, fixedText, textOf}
-use Rattle.numbers.specs.Rounding.{isNegative, unitsOf}
-use Rattle.numbers.proofs.PrintingLaws.{digit-count-fits, digits-length, sign-fits}
 use Rattle.tokens.specs.Line.{spaced}
-use Rattle.tokens.specs.Quote.{allPlain, quoteFor, quoteOf}
-use Rattle.names.specs.Elements.{symbolOf}
-use Rattle.names.specs.Packing.{unpacked}
-use Rattle.names.proofs.PackingTurns.{unpacked-short}
 use Rattle.model.specs.Lent.{Lent, residueIn, atomIn, modelIn}
 use Rattle.model.specs.Records.{ResidueRecord, AtomRecord, Model}
 use Rattle.model.specs.Termini.{isPolymer}
 use Rattle.model.specs.WellFormed.{wellFormedIn}
 use Rattle.model.specs.declared.room.Room.{Room}
-use Rattle.row_texts.specs.Fields.{decimalOf, sequenceText, nameText, symbolText, codeText, groupText, numberText, coordinateText}
 use Rattle.row_texts.specs.Rows.{atomFields, polymerFields, atomText, polymerText}
 use Rattle.row_texts.specs.declared.loop_rows.AtomRow.{AtomRow}
 use Rattle.row_texts.specs.declared.loop_rows.PolymerRow.{PolymerRow}
+use Rattle.row_texts.proofs.FieldsAreShort.{Short, decimal-short, sequence-short, name-short, symbol-short, code-short, group-short, number-short, coordinate-short}
+pub use Rattle.row_texts.proofs.FieldsAreShort.{decimal-fits}
 use Rattle.writer.specs.Text as text
 use Rattle.writer.specs.Text.{linesText, opening, closing, polymerHeaders, atomHeaders, atomRowOf, polymerRowOf, atomRows, polymerRows, polymerList}
 use Rattle.writer.proofs.ListsByIndex.{from-length}
 use Rattle.writer.proofs.WellFormedParts.{few-residues, few-atoms}
 
--- ---- fields
-abbrev Short : List ℕ → Type 0
-Short field = length field ≤ 25
-
-module _ (a b : List ℕ) where
-  either-short : (t : Bool) → Short a → Short b → Short (cond t a b)
-  either-short true p q = p
-  either-short false p q = q
-
-pub decimal-fits : (n : ℕ) → length (decimalOf n) ≤ 20
-decimal-fits n = omega (arith, digits-length (digitCount n) n, digit-count-fits n)
-
-decimal-short : (n : ℕ) → Short (decimalOf n)
-decimal-short n = omega (arith, decimal-fits n)
-
-sequence-short : (s : ℕ) → Short (sequenceText s)
-unfolding sequenceText
-sequence-short s =
-    either-short (byte "-" ∷ decimalOf (2 ^ 31 - s)) (decimalOf (s - 2 ^ 31)) (ltb s (2 ^ 31))
-    (omega (arith, decimal-fits (2 ^ 31 - s)))
-    (decimal-short (s - 2 ^ 31))
-
-quote-short : (name : List ℕ) → length name ≤ 8 → Short (quoteOf name)
-unfolding quoteOf
-quote-short [] h = omega arith
-quote-short (b ∷ s) h =
-    let q = quoteFor (b ∷ s) in
-    either-short (b ∷ s) (q ∷ ((b ∷ s) ++ q ∷ [])) (allPlain (b ∷ s)) (omega arith) (omega (arith, length-append (b ∷ s) (q ∷ [])))
-
-name-short : (name : ℕ) → Short (nameText name)
-name-short name = quote-short (unpacked name) (unpacked-short 8 name)
-
-symbol-short : (element : ℕ) → Short (symbolText element)
-symbol-short element = omega (arith, unpacked-short 8 (symbolOf element))
-
-code-short : (code : ℕ) → Short (codeText code)
-unfolding codeText
-code-short code = either-short (bytes "?") (code ∷ []) (eqb code 0) (omega arith) (omega arith)
-
-group-short : (polymer : Bool) → Short (groupText polymer)
-unfolding groupText
-group-short polymer = either-short (bytes "ATOM") (bytes "HETATM") polymer (omega arith) (omega arith)
-
-number-short : (polymer : Bool) (number : ℕ) → Short (numberText polymer number)
-unfolding numberText
-number-short polymer number = either-short (decimalOf number) (bytes ".") polymer (decimal-short number) (omega arith)
-
-coordinate-short : (x : Float) → Short (coordinateText x)
-unfolding textOf fixedText
-coordinate-short x =
-    let n = unitsOf 3 x in
-    let whole = lastDigits (digitCount (n / 10 ^ 3)) (n / 10 ^ 3) in
-    omega (arith, length-append (sign (isNegative x)) (whole ++ (byte "." ∷ lastDigits 3 n)), length-append whole (byte "." ∷ lastDigits 3 n), sign-fits (isNegative x), digits-length (digitCount (n / 10 ^ 3)) (n / 10 ^ 3), digit-count-fits (n / 10 ^ 3), digits-length 3 n)
-
--- those that are always the same
+-- ---- fields that are always the same
 alternate-short : Short (bytes ".")
 alternate-short = omega arith
 
