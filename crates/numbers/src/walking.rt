@@ -13,7 +13,9 @@ pub(crate) struct Walked {
 // The digits of s from index from on, after those that wrote n. Of so few no number needs a cap.
 pub(crate) fn walk_digits(s: &[u8], from: usize, n: u64) -> Walked
     requires { ⌜ (from ≤ length (now s)) × ((length (now s) ≤ 15) × (n < 10 ^ from)) ⌝ }
-    ensures { λ r. ⌜ (r .number ≡ numberFrom n (digits (drop from (now (s .entry))))) × ((r .end ≡ from + digitRun (drop from (now (s .entry)))) × ((r .number < 10 ^ (r .end)) × (r .end ≤ length (now (s .entry))))) ⌝ }
+    ensures { λ r. ⌜ r .number ≡ numberFrom n (digits (drop from (now (s .entry)))) ⌝ }
+    ensures { λ r. ⌜ r .end ≡ from + digitRun (drop from (now (s .entry))) ⌝ }
+    ensures { λ r. ⌜ (r .number < 10 ^ (r .end)) × (r .end ≤ length (now (s .entry))) ⌝ }
 {
     let mut number = n;
     let mut i = from;

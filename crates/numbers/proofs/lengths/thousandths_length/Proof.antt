@@ -35,11 +35,12 @@ fixed-length-requires : tie.Need-fixed-length-requires
 fixed-length-requires c κs = rw (c .before .digit-count .ensures) (digit-count-fits _)
 
 returns-2 : tie.Need-returns-2
-returns-2 c = (
-  λ yes. c .fixed-length .ensures ∙ text-length 3 (c .before .is-negative .result) (c .before .before .before .units .result) 1000 _ refl (c .before .before .digit-count .ensures)
-      ∙ ap length (text-of 3 (c .before .before .before .before .before .before .args .x) (c .before .is-negative .ensures) (c .before .before .before .units .ensures)),
-  λ no. absurd (true≢false (sym (some (c .before .before .before .before)) ∙ no)),
-)
+returns-2 c =
+    let x = c .before .before .before .before .before .before .args .x in
+    let n = c .before .before .before .units in
+    let negative = c .before .is-negative in
+    let long = c .fixed-length .ensures ∙ text-length 3 (negative .result) (n .result) 1000 _ refl (c .before .before .digit-count .ensures) in
+    (λ yes. long ∙ ap length (text-of 3 x (negative .ensures) (n .ensures)), λ no. absurd (true≢false (sym (some (c .before .before .before .before)) ∙ no)))
 
 pub thousandths-length-spec : {M : Type 1} → statement M
 thousandths-length-spec =
