@@ -1,10 +1,12 @@
 pub mod AtomRows
+pub mod EndsLaws
 pub mod ListsByIndex
 pub mod ModelWalk
 pub mod NameBytes
 pub mod NothingEmitted
 pub mod NumberWalk
 pub mod PolymerList
+pub mod PolymerRows
 pub mod ResiduesByIndex
 pub mod RowsJoined
 pub mod RunWalk

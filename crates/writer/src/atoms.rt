@@ -25,7 +25,13 @@ ghost use Rattle.writer.specs.Text.{atomLoop};
 ghost use Rattle.writer.specs.PolymerNumbers.{rowBy, atomsOf, Walkable};
 
 // The row of an atom in the residue where the walk stands.
-fn atom_row(chains: &[u64], chain_count: usize, id: u64, atom: Atom, walk: Walk) -> AtomRow
+pub(crate) fn atom_row(
+    chains: &[u64],
+    chain_count: usize,
+    id: u64,
+    atom: Atom,
+    walk: Walk,
+) -> AtomRow
     requires { ⌜ «chain_count» ≤ length (now chains) ⌝ }
     ensures { λ r. ⌜ r ≡ rowBy (take «chain_count» (now (chains .entry))) id atom walk ⌝ }
 {

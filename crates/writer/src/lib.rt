@@ -2,6 +2,7 @@
 mod answers;
 mod atoms;
 mod chains;
+mod ends;
 mod headers;
 mod polymer_numbers;
 mod polymers;

@@ -19,7 +19,7 @@ ghost use Rattle.wellformed.specs.Slices.{entries, residuesAscend};
 ghost use Rattle.writer.specs.Text.{polymerList};
 ghost use Rattle.writer.specs.PolymerNumbers.{polymerBy, polymersOf};
 
-fn has_polymers(codes: &[u8], n: usize) -> bool
+pub(crate) fn has_polymers(codes: &[u8], n: usize) -> bool
     ensures { λ r. ⌜ r ≡ any isPolymer (listFrom (entries (now (codes .entry))) 0 n) ⌝ }
 {
     let mut i = 0;

@@ -1,6 +1,7 @@
 // `write_by_names`: refusals 12, 13 and 14 in order, and then the text.
 use crate::answers::Answer;
 use crate::atoms::put_atom_loop;
+use crate::ends::past_text;
 use crate::headers::put_opening;
 use crate::polymers::put_polymer_list;
 use crate::unwritable::first_unwritable;
@@ -16,7 +17,7 @@ ghost use Rattle.writer.specs.PolymerNumbers.{Walkable};
 ghost use Rattle.writer.specs.Text.{textOf};
 ghost use Rattle.writer.specs.Writing.{fitted, writeOf, Writes};
 
-// The text from the first byte on; over an empty buffer this tells its length.
+// The text from the first byte on.
 fn put_text(
     out: &mut [u8],
     chains: &[u64],
@@ -85,8 +86,7 @@ fn write_fitting(
     ensures { λ r. ⌜ (let l = lent chains «residue_keys» «residue_names» «residue_codes» «residue_categories» «residue_positions» «atom_keys» «atom_names» elements positions occupancies .entry in
         wellFormedIn l counts ≡ true → Writes out (λ size. fitted size (textOf (modelIn l counts))) r) ⌝ }
 {
-    let needed = put_text(
-        &mut out[0..0],
+    let needed = past_text(
         chains,
         residue_keys,
         residue_names,
