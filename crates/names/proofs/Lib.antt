@@ -8,6 +8,7 @@ pub mod PackingTurns
 pub mod PlacesInOrder
 pub mod ResiduesByNumber
 pub mod ResolvingTwice
+pub mod RowNumbers
 pub mod RowsInOrder
 pub mod SymbolsByName
 pub mod SymbolsReadAgain

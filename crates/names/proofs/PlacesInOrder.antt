@@ -2,47 +2,34 @@
 use mathlib.Core.Path.{_≡_, refl, sym, ap, _∙_, subst}
 use mathlib.Core.Logic.{⊎-elim}
 use mathlib.Core.List.{List, [], _∷_}
-use mathlib.Core.Bool.{Bool, true, false, cond}
+use mathlib.Core.Bool.{true}
 use Prim.Native.Nat.{ℕ, zero, suc, _≤_, _<_, suc-le-suc}
 use native.Mathlib.Nat.{le-of-suc-le-suc, not-suc-le-zero, zero-lt-suc, lt-trans, eq-or-lt-of-le, lt-of-le-of-lt}
 use native.Mathlib.Decide.{decLt}
 use native.Mathlib.Omega.{arith}
-use lib.Dec.{eqb, ltb}
-use lib.ListN.{length, getD, take}
-use lib.Seq.{take-length}
+use lib.Dec.{ltb}
+use lib.ListN.{length, getD}
 use borrow.Author.Tests.{eq-eqb, ne-eqb, ltb-true}
 use Rattle.ascii.proofs.TestLaws.{left-of, right-of}
-use Rattle.field_slices.specs.declared.places.Place as place
 use Rattle.field_slices.specs.declared.places.Place.the-variants as found
 use Rattle.field_slices.specs.Places.{Ascending, Found}
 use Rattle.field_slices.proofs.OrderLaws.{numbers}
 use Rattle.field_slices.proofs.PlaceLaws.{getD-any, ascending-at, Says, place-says}
-use Rattle.names.specs.declared.search.Place.{Place}
 use Rattle.names.specs.declared.search.Place.the-variants.{At, Nowhere}
 use Rattle.names.specs.Places.{next, placeOf, ascends}
 
 -- ---- where a number stands
-pub place-at : (n : ℕ) (l : List ℕ) (i : ℕ) → i < length l → getD l i 0 ≡ n → ((k : ℕ) → k < i → getD l k 0 ≡ n → ⊥) → placeOf n l ≡ At i
+place-at : (n : ℕ) (l : List ℕ) (i : ℕ) → i < length l → getD l i 0 ≡ n → ((k : ℕ) → k < i → getD l k 0 ≡ n → ⊥) → placeOf n l ≡ At i
 unfolding placeOf
 place-at n [] i h e b = absurd (not-suc-le-zero h)
 place-at n (x ∷ l) zero h e b = rw (eq-eqb x n e)
 place-at n (x ∷ l) (suc i) h e b =
     rw (ne-eqb x n (b 0 (zero-lt-suc i))) (ap next (place-at n l i (le-of-suc-le-suc h) e (λ k j. b (suc k) (suc-le-suc j))))
 
-pub place-nowhere : (n : ℕ) (l : List ℕ) → ((k : ℕ) → k < length l → getD l k 0 ≡ n → ⊥) → placeOf n l ≡ Nowhere
+place-nowhere : (n : ℕ) (l : List ℕ) → ((k : ℕ) → k < length l → getD l k 0 ≡ n → ⊥) → placeOf n l ≡ Nowhere
 unfolding placeOf
 place-nowhere n [] b = refl
 place-nowhere n (x ∷ l) b = rw (ne-eqb x n (b 0 (zero-lt-suc (length l)))) (ap next (place-nowhere n l (λ k j. b (suc k) (suc-le-suc j))))
-
-pub place-within : (n : ℕ) (l : List ℕ) (i : ℕ) → placeOf n l ≡ At i → i < length l
-unfolding placeOf
-place-within n [] i e = let z : _≡_ {A = ℕ} 0 1 = cc in omega arith
-place-within n (x ∷ l) i e = go (eqb x n) (placeOf n l) (place-within n l) e
-  where
-    go : (t : Bool) (p : Place) → ((j : ℕ) → p ≡ At j → j < length l) → cond t (At 0) (next p) ≡ At i → i < suc (length l)
-    go true p h e = let first : 0 ≡ i = cc in omega arith
-    go false (At j) h e = let later : suc j ≡ i = cc in omega (arith, h j refl)
-    go false Nowhere h e = let z : _≡_ {A = ℕ} 0 1 = cc in omega arith
 
 -- ---- in ascending order
 ascending : (l : List ℕ) → ascends l ≡ true → Ascending ltb l
@@ -56,20 +43,17 @@ module _ (l : List ℕ) (n : ℕ) (a : ascends l ≡ true) where
   less : (i k : ℕ) → i < k → k < length l → getD l i 0 < getD l k 0
   less i k h j = ltb-true (getD l i 0) (getD l k 0) (ascending-at numbers 0 l (ascending l a) i k h j)
 
-  all : (r : place.Place) → Found ltb (take (length l) l) n r → Found ltb l n r
-  all r f = subst (λ (m : List ℕ). Found ltb m n r) (take-length l) f
-
-  pub found-at : (i : ℕ) → Found ltb (take (length l) l) n (found.At i) → placeOf n l ≡ At i
-  found-at i f =
-      let within : i < length l = all (found.At i) f .inside .0 in
-      let there : getD l i 0 ≡ n = getD-any l i 0 n within ∙ all (found.At i) f .inside .1 in
+  pub placed-at : (i : ℕ) → Found ltb l n (found.At i) → placeOf n l ≡ At i
+  placed-at i f =
+      let within : i < length l = f .inside .0 in
+      let there : getD l i 0 ≡ n = getD-any l i 0 n within ∙ f .inside .1 in
       place-at n l i within there (λ k h e. omega (arith, less k i h within))
 
-  pub found-nowhere : (i : ℕ) → Found ltb (take (length l) l) n (found.Before i) → placeOf n l ≡ Nowhere
-  found-nowhere i f = place-nowhere n l (λ k j e. apart k j e (decLt k i))
+  pub placed-nowhere : (i : ℕ) → Found ltb l n (found.Before i) → placeOf n l ≡ Nowhere
+  placed-nowhere i f = place-nowhere n l (λ k j e. apart k j e (decLt k i))
     where
       says : Says numbers 0 n l (found.Before i)
-      says = subst (Says numbers 0 n l) (sym (all (found.Before i) f .place (ascending l a))) (place-says numbers 0 n l)
+      says = subst (Says numbers 0 n l) (sym (f .place (ascending l a))) (place-says numbers 0 n l)
 
       -- what is from i on is more than n
       more : (k : ℕ) → i ≤ k → k < length l → n < getD l k 0

@@ -5,27 +5,21 @@ use mathlib.Core.Bool.{Bool, true, false, cond}
 use Prim.Native.Nat.{ℕ, _<_}
 use native.Mathlib.Omega.{arith}
 use lib.Dec.{eqb, leb}
-use lib.ListN.{getD}
+use lib.ListN.{length, getD}
 use borrow.Author.Tests.{eqb-true, ne-eqb, leb-false}
 use Rattle.names.specs.declared.residues.FoundResidue.{FoundResidue}
 use Rattle.names.specs.declared.search.Place.{Place}
 use Rattle.names.specs.declared.search.Place.the-variants.{At, Nowhere}
 use Rattle.names.specs.declared.table.Resolved.{Resolved}
 use Rattle.names.specs.declared.table.Resolved.the-variants.{Standard, Unresolved}
-use Rattle.names.specs.Places.{next, placeOf}
+use Rattle.names.specs.Packing.{packedIn}
+use Rattle.names.specs.Places.{next, placeOf, ascends}
 use Rattle.names.specs.Residues.{residueCode, residueOf}
+use Rattle.names.specs.Rows.{put, sorted, inOrder, names}
 use Rattle.names.specs.Table.{Row, canonical, aliases, resolveIn, resolveOf}
 use Rattle.names.proofs.CodesAreInverse.{residue-again}
 
 -- ---- putting in order
-unfoldable pub put : Row → List Row → List Row
-put r [] = r ∷ []
-put r (x ∷ l) = let later = x ∷ put r l in cond (leb (r .name) (x .name)) (r ∷ x ∷ l) later
-
-unfoldable pub sorted : List Row → List Row
-sorted [] = []
-sorted (r ∷ l) = put r (sorted l)
-
 -- two rows of two names can change places
 swapped : (n x y : ℕ) (a b c : Resolved) → x < y → cond (eqb x n) a (cond (eqb y n) b c) ≡ cond (eqb y n) b (cond (eqb x n) a c)
 swapped n x y a b c h = go (eqb x n) (eqb-true x n)
@@ -52,9 +46,6 @@ sorted-same n [] = refl
 sorted-same n (r ∷ l) = put-same n r (sorted l) ∙ ap (λ (o : Resolved). cond (eqb (r .name) n) (Standard (r .target) (r .residue)) o) (sorted-same n l)
 
 -- ---- by place
-unfoldable pub names : List Row → List ℕ
-names l = map (λ (r : Row). r .name) l
-
 unfoldable pub targets : List Row → List ℕ
 targets l = map (λ (r : Row). r .target) l
 
@@ -81,8 +72,13 @@ by-place n (r ∷ l) = go (eqb (r .name) n) (placeOf n (names l)) (by-place n l)
     go false Nowhere e = e
 
 -- ---- the table
-unfoldable pub inOrder : List Row
-inOrder = sorted (canonical ++ aliases)
+pub names-count : length (names inOrder) ≡ 194
+unfolding put sorted inOrder names canonical aliases packedIn
+names-count = refl
+
+pub names-ascend : ascends (names inOrder) ≡ true
+unfolding put sorted inOrder names canonical aliases packedIn ascends
+names-ascend = refl
 
 pub resolved-at : (n i : ℕ) → placeOf n (names inOrder) ≡ At i → resolveOf n ≡ answer (getD (targets inOrder) i 0) (residueOf (getD (codes inOrder) i 0))
 unfolding inOrder resolveOf answered

@@ -5,4 +5,5 @@ pub mod Places
 pub mod Polymers
 pub mod Positions
 pub mod Residues
+pub mod Rows
 pub mod Table

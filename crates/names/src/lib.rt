@@ -2,6 +2,7 @@
 mod elements;
 mod packing;
 mod residues;
+mod rows;
 mod search;
 mod table;
 

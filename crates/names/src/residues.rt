@@ -79,41 +79,6 @@ pub enum Polymer {
     Neither,
 }
 
-// The residues in the order of their numbers, from 1 on.
-const RESIDUES: [StandardResidue; 31] = [
-    StandardResidue::ALA,
-    StandardResidue::ARG,
-    StandardResidue::ASN,
-    StandardResidue::ASP,
-    StandardResidue::CYS,
-    StandardResidue::GLN,
-    StandardResidue::GLU,
-    StandardResidue::GLY,
-    StandardResidue::HIS,
-    StandardResidue::ILE,
-    StandardResidue::LEU,
-    StandardResidue::LYS,
-    StandardResidue::MET,
-    StandardResidue::PHE,
-    StandardResidue::PRO,
-    StandardResidue::SER,
-    StandardResidue::THR,
-    StandardResidue::TRP,
-    StandardResidue::TYR,
-    StandardResidue::VAL,
-    StandardResidue::A,
-    StandardResidue::C,
-    StandardResidue::G,
-    StandardResidue::U,
-    StandardResidue::I,
-    StandardResidue::DA,
-    StandardResidue::DC,
-    StandardResidue::DG,
-    StandardResidue::DT,
-    StandardResidue::DI,
-    StandardResidue::HOH,
-];
-
 // The name of each number's residue, packed.
 const SHOWN: [u64; 32] = [
     0,
@@ -210,15 +175,40 @@ impl StandardResidue {
     pub fn of_code(code: u8) -> FoundResidue
         ensures { λ r. ⌜ r ≡ residueOf code ⌝ }
     {
-        if code < 1 {
-            return FoundResidue::None;
+        match code {
+            1 => FoundResidue::Residue(StandardResidue::ALA),
+            2 => FoundResidue::Residue(StandardResidue::ARG),
+            3 => FoundResidue::Residue(StandardResidue::ASN),
+            4 => FoundResidue::Residue(StandardResidue::ASP),
+            5 => FoundResidue::Residue(StandardResidue::CYS),
+            6 => FoundResidue::Residue(StandardResidue::GLN),
+            7 => FoundResidue::Residue(StandardResidue::GLU),
+            8 => FoundResidue::Residue(StandardResidue::GLY),
+            9 => FoundResidue::Residue(StandardResidue::HIS),
+            10 => FoundResidue::Residue(StandardResidue::ILE),
+            11 => FoundResidue::Residue(StandardResidue::LEU),
+            12 => FoundResidue::Residue(StandardResidue::LYS),
+            13 => FoundResidue::Residue(StandardResidue::MET),
+            14 => FoundResidue::Residue(StandardResidue::PHE),
+            15 => FoundResidue::Residue(StandardResidue::PRO),
+            16 => FoundResidue::Residue(StandardResidue::SER),
+            17 => FoundResidue::Residue(StandardResidue::THR),
+            18 => FoundResidue::Residue(StandardResidue::TRP),
+            19 => FoundResidue::Residue(StandardResidue::TYR),
+            20 => FoundResidue::Residue(StandardResidue::VAL),
+            21 => FoundResidue::Residue(StandardResidue::A),
+            22 => FoundResidue::Residue(StandardResidue::C),
+            23 => FoundResidue::Residue(StandardResidue::G),
+            24 => FoundResidue::Residue(StandardResidue::U),
+            25 => FoundResidue::Residue(StandardResidue::I),
+            26 => FoundResidue::Residue(StandardResidue::DA),
+            27 => FoundResidue::Residue(StandardResidue::DC),
+            28 => FoundResidue::Residue(StandardResidue::DG),
+            29 => FoundResidue::Residue(StandardResidue::DT),
+            30 => FoundResidue::Residue(StandardResidue::DI),
+            31 => FoundResidue::Residue(StandardResidue::HOH),
+            _ => FoundResidue::None,
         }
-        if 31 < code {
-            return FoundResidue::None;
-        }
-        let i = (code - 1) as usize;
-        let residue = RESIDUES[i];
-        FoundResidue::Residue(residue)
     }
 
     // The name that the residue is shown by, packed.

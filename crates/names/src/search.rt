@@ -1,20 +1,31 @@
-// The place of a name in a list of packed names.
+// The place of a name in the table of residue names, by halves.
+use crate::rows::name_at;
 ghost use mathlib.Core.Path.{_≡_};
-ghost use mathlib.Core.Bool.{true};
-ghost use Rattle.names.specs.Places.{placeOf, ascends};
+ghost use Rattle.names.specs.Places.{placeOf};
+ghost use Rattle.names.specs.Rows.{inOrder, names};
 
 pub enum Place {
     At(usize),
     Nowhere,
 }
 
-// In a list in ascending order.
-pub(crate) fn place_in_order(names: &[u64], name: u64) -> Place
-    requires { ⌜ ascends (now names) ≡ true ⌝ }
-    ensures { λ r. ⌜ r ≡ placeOf name (now (names .entry)) ⌝ }
+pub(crate) fn place_in_order(name: u64) -> Place
+    ensures { λ r. ⌜ r ≡ placeOf name (names inOrder) ⌝ }
 {
-    match field_slices::place_of_key(names, names.len(), name) {
-        field_slices::Place::At(i) => Place::At(i),
-        field_slices::Place::Before(_) => Place::Nowhere,
+    let mut lo = 0;
+    let mut hi = 194;
+    while lo < hi {
+        let mid = lo + (hi - lo) / 2;
+        let halfway = name_at(mid);
+        if halfway < name {
+            lo = mid + 1;
+        } else {
+            if name < halfway {
+                hi = mid;
+            } else {
+                return Place::At(mid);
+            }
+        }
     }
+    Place::Nowhere
 }

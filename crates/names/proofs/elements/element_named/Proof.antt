@@ -1,6 +1,6 @@
 -- The key of each arm is the symbol of the arm's number, and a symbol read again is its element; a name that is no key is no symbol.
 use mathlib.Core.Path.{_≡_, sym, ap, _∙_}
-use Prim.Native.Nat.{ℕ, _≤_}
+use Prim.Native.Nat.{ℕ}
 use lib.Dec.{T, leb, leb→le}
 use Rattle.names.specs.Elements.{symbols, elementOf, symbolOf}
 use Rattle.names.specs.Packing.{packedIn, unpacked}

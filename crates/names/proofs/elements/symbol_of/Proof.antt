@@ -1,33 +1,18 @@
 -- Each arm gives the symbol of its key; 0 and the numbers past the keys have `X`.
-use mathlib.Core.Path.{_≡_, refl, sym, ap}
-use Prim.Native.Nat.{ℕ, zero, suc, _≤_, _<_}
+use mathlib.Core.Path.{_≡_, sym, ap}
+use Prim.Native.Nat.{ℕ}
 use Prim.Native.String.{String}
-use native.Mathlib.Decide.{decLt}
-use native.Mathlib.Omega.{arith}
-use lib.ListN.{length, List·getD-eq-default}
+use lib.ListN.{drop}
 use Rattle.ascii.specs.Bytes.{bytes}
 use Rattle.names.specs.Elements.{symbols, symbolOf}
 use Rattle.names.specs.Packing.{packedIn, packed}
-use Rattle.names.proofs.MatchArms.{Missed, missed-places}
-use Rattle.names.proofs.TablesByTest.{places}
+use Rattle.names.proofs.MatchArms.{missed-list-from-one}
 use Rattle.names.proofs.elements.symbol_of.Statement.{statement}
 use Rattle.names.proofs.elements.symbol_of.Tie as tie
 
 -- the symbol of the key that the number is
 arm : {n k : ℕ} → n ≡ k → symbolOf k ≡ symbolOf n
 arm e = sym (ap symbolOf e)
-
-missed : (n : ℕ) → Missed (Unit {0}) (places 1 118) n → symbolOf n ≡ packed (bytes "X")
-unfolding symbols symbolOf
-missed zero h = refl
-missed (suc n) h = go (decLt (suc n) 119)
-  where
-    past : (suc n < 119 → ⊥) → length symbols ≤ suc n
-    past k = omega arith
-
-    go : Dec (suc n < 119) → symbolOf (suc n) ≡ packed (bytes "X")
-    go (yes k) = absurd (missed-places (Unit {0}) 1 118 (suc n) h (omega arith) k)
-    go (no k) = ap (λ (t : String). packed (bytes t)) (List·getD-eq-default symbols "X" (past k))
 
 pub symbol-of-spec : {M : Type 1} → statement M
 unfolding symbols symbolOf packedIn
@@ -64,4 +49,4 @@ symbol-of-spec =
     (λ c. arm (c .match .keys109)) (λ c. arm (c .match .keys110)) (λ c. arm (c .match .keys111)) (λ c. arm (c .match .keys112))
     (λ c. arm (c .match .keys113)) (λ c. arm (c .match .keys114)) (λ c. arm (c .match .keys115)) (λ c. arm (c .match .keys116))
     (λ c. arm (c .match .keys117)) (λ c. arm (c .match .keys118))
-    (λ c. sym (missed (c .before .args .element) (c .match .rest))))
+    (λ c. sym (ap (λ (t : String). packed (bytes t)) (missed-list-from-one (drop 1 symbols) "X" (c .before .args .element) (c .match .rest)))))
