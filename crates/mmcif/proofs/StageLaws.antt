@@ -1,6 +1,6 @@
 -- From stage to stage: lines are taken while none waits, up to the row that waits or to the end; a row that waits is put in, and lines are taken again.
 use mathlib.Core.Path.{_≡_, refl, sym, ap, _∙_, subst}
-use mathlib.Core.Bool.{true, false, false≢true}
+use mathlib.Core.Bool.{true, false≢true}
 use mathlib.Core.List.{List}
 use Prim.Native.Nat.{ℕ, suc, _+_, _-_, _^_, _≤_, _<_}
 use native.Mathlib.Omega.{arith}
@@ -11,10 +11,9 @@ use Rattle.rows.specs.declared.rules.Site.{Site}
 use Rattle.rows.specs.declared.settings.Settings.{Settings}
 use Rattle.model.specs.Lists.{count}
 use Rattle.model.specs.declared.room.Room.{Room}
-use Rattle.building.specs.Holds.{Records, SameLengths}
-use Rattle.building.specs.Slices.{ChainFound}
+use Rattle.building.specs.Holds.{Records}
 use Rattle.acts.specs.Making.{Making, going, halted, done, andThen}
-use Rattle.acts.specs.Standing.{Stands, Acts, Keeps}
+use Rattle.acts.specs.Standing.{Stands, Acts}
 use Rattle.acts.specs.declared.act.Act.{Act}
 use Rattle.acts.specs.declared.act.Act.the-variants.{Keep}
 use Rattle.acts.specs.declared.doing.Halt.{Halt}
@@ -25,7 +24,7 @@ use Rattle.mmcif.specs.declared.stages.Stage.{Stage}
 use Rattle.mmcif.specs.declared.stages.Waiting.{Waiting}
 use Rattle.mmcif.specs.declared.stages.Waiting.the-variants.{Nothing, Row}
 use Rattle.mmcif.specs.Plans.{planOf}
-use Rattle.mmcif.specs.Stages.{onwardTo, chainIn, isWaiting, stageAt, met, Inside, rest, Placed, Between, Before, ReachedBy, Reached, GoesOnTo, TakesRow}
+use Rattle.mmcif.specs.Stages.{onwardTo, isWaiting, stageAt, met, Inside, rest, Placed, Between, Before, ReachedBy, Reached, GoesOnTo}
 use Rattle.mmcif.proofs.NextLineLaws.{waitingBy, stageWith, next-moves, none-met, next-inside, next-reached}
 
 at-most-one : (w : Waiting) → count (isWaiting w) ≤ 1
@@ -87,26 +86,16 @@ module _ (text : List ℕ) (settings : Settings) where
   }
 
   -- ---- the row that waits
-  pub none-taken : (room : Room) (place : ℕ) (from : Stage) (r after : Records) → from .waiting ≡ Nothing → SameLengths r after → TakesRow text settings room place from from r after
-  none-taken room place from r after none lengths = record {
-    lengths = lengths;
-    stops = λ waits. absurd (false≢true (sym (ap isWaiting none) ∙ waits));
-    fewer = λ waits. absurd (false≢true (sym (ap isWaiting none) ∙ waits));
-    chains = λ found. omega arith;
-    inside = λ i. i;
-    reached = λ i waits. absurd (false≢true (sym (ap isWaiting none) ∙ waits));
-  }
-
   module _ (from : Stage) (kept : Standing) where
     -- the row put in, before the next line
     abbrev pub between : Stage
     between = stageAt (onwardTo (kept .halt) (from .at) (length text)) (from .number) (from .heads) kept
 
-    at-between : (halt : Halt) → length text - onwardTo halt (from .at) (length text) ≤ length text - from .at
+    pub at-between : (halt : Halt) → length text - onwardTo halt (from .at) (length text) ≤ length text - from .at
     at-between Going = omega arith
     at-between (Refused why) = omega arith
 
-    inside-between : Inside text from → Inside text between
+    pub inside-between : Inside text from → Inside text between
     inside-between i = go (kept .halt)
       where
         go : (halt : Halt) → (onwardTo halt (from .at) (length text) ≤ length text) × (from .number ≤ onwardTo halt (from .at) (length text) + 1)
@@ -129,27 +118,10 @@ module _ (text : List ℕ) (settings : Settings) where
       same-rest (going st) s = ap (λ (halt : Halt). rest text settings room (stageAt (onwardTo halt (from .at) (length text)) (from .number) (from .heads) kept) st) (s .0)
       same-rest (halted why) s = refl
 
-      row-put : Between text settings room target between after
+      pub row-put : Between text settings room target between after
       row-put = record {
         making = here;
         stands = stands;
         placed = placed-by here stands (rows-grow room (b .st) line (Keep site));
         finish = same-rest here stands ∙ b .finish;
       }
-
-    pub row-taken : (few : suc (length text) < 2 ^ 64) (room : Room) (place line : ℕ) (site : Site) (to : Stage) (r after : Records) → from .waiting ≡ Row line site → SameLengths r after
-        → (ChainFound (take (met from) (r .chains)) (site .chain) place → Keeps r room line (from .standing .held) site kept after)
-        → GoesOnTo text settings between to → TakesRow text settings room place from to r after
-    row-taken few room place line site to r after waiting lengths keeps g =
-        let found-as : ChainFound (take (met from) (r .chains)) (chainIn (from .waiting)) place → ChainFound (take (met from) (r .chains)) (site .chain) place
-        = subst (λ (w : Waiting). ChainFound (take (met from) (r .chains)) (chainIn w) place) waiting in
-        record {
-          lengths = lengths;
-          stops = λ waits. g .stops;
-          fewer = λ waits. omega (arith, g .fewer, at-between (kept .halt), ap count waits);
-          chains = λ found. omega (arith, keeps (found-as found) .chains, g .chains);
-          inside = λ i. g .inside (inside-between i);
-          reached = λ i waits found target q.
-              let b : Before text settings room target line site from r = subst (λ (w : Waiting). ReachedBy w text settings room target from r) waiting q in
-              g .reached (inside-between i) room target after (row-put room r after line site (keeps (found-as found) .acts) i few target b);
-        }

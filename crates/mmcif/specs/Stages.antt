@@ -18,7 +18,7 @@ use Rattle.building.specs.Gaps.{noneHeld, HoldsApart}
 use Rattle.building.specs.Holds.{Records, SameLengths}
 use Rattle.building.specs.Slices.{ChainFound}
 use Rattle.acts.specs.Making.{Making, going, halted, done, andThen, made}
-use Rattle.acts.specs.Standing.{Stands}
+use Rattle.acts.specs.Standing.{Stands, Keeps}
 use Rattle.acts.specs.declared.act.Act.the-variants.{Keep}
 use Rattle.acts.specs.declared.doing.Halt.{Halt}
 use Rattle.acts.specs.declared.doing.Halt.the-variants.{Going, Refused}
@@ -51,6 +51,11 @@ isWaiting (Row line s) = true
 abbrev pub isOf : Waiting → ℕ → Bool
 isOf Nothing name = false
 isOf (Row line s) name = eqb (s .chain) name
+
+-- with which a run goes on, if it is one
+abbrev pub isOwn : Bool → Waiting → ℕ → Bool
+isOwn true w name = isOf w name
+isOwn false w name = false
 
 -- where no row waits
 abbrev pub stageAt : ℕ → ℕ → Heads → Standing → Stage
@@ -116,17 +121,16 @@ pub record GoesOnTo (text : List ℕ) (settings : Settings) (from to : Stage) : 
   pub inside : Inside text from → Inside text to
   pub reached : Inside text from → (room : Room) (target : Making) (r : Records) → Between text settings room target from r → Reached text settings room target to r
 
--- the row that waits put in, its chain found at this place, and on to the next
-pub record TakesRow (text : List ℕ) (settings : Settings) (room : Room) (place : ℕ) (from to : Stage) (r after : Records) : Type 0 where
-  pub lengths : SameLengths r after
-  pub stops : isWaiting (from .waiting) ≡ true → isWaiting (to .waiting) ≡ false → length text ≤ to .at
-  pub fewer : isWaiting (from .waiting) ≡ true → left text to < left text from
-  pub chains : ChainFound (take (met from) (r .chains)) (chainIn (from .waiting)) place → met from ≤ met to
-  pub inside : Inside text from → Inside text to
-  pub reached : Inside text from → isWaiting (from .waiting) ≡ true → ChainFound (take (met from) (r .chains)) (chainIn (from .waiting)) place
-      → (target : Making) → Reached text settings room target from r → Reached text settings room target to after
+-- the row that waits put in, its chain found at this place; nothing where none waits
+abbrev pub PutBy : Waiting → Room → ℕ → Stage → Standing → Records → Records → Type 0
+PutBy Nothing room place from kept r after = kept ≡ from .standing
+PutBy (Row line site) room place from kept r after = ChainFound (take (met from) (r .chains)) (site .chain) place → Keeps r room line (from .standing .held) site kept after
 
--- and all that follow on it in its chain, whose name stands at the place already
+pub record PutsWaiting (room : Room) (place : ℕ) (from : Stage) (kept : Standing) (r after : Records) : Type 0 where
+  pub lengths : SameLengths r after
+  pub puts : PutBy (from .waiting) room place from kept r after
+
+-- the row that waits and all that follow on it in its chain, whose name stands at the place already
 pub record TakesRun (text : List ℕ) (settings : Settings) (room : Room) (place : ℕ) (from to : Stage) (r after : Records) : Type 0 where
   pub lengths : SameLengths r after
   pub stops : isWaiting (from .waiting) ≡ true → isWaiting (to .waiting) ≡ false → length text ≤ to .at
@@ -134,3 +138,9 @@ pub record TakesRun (text : List ℕ) (settings : Settings) (room : Room) (place
   pub inside : Inside text from → Inside text to
   pub reached : Inside text from → isWaiting (from .waiting) ≡ true → ChainFound (take (met from) (r .chains)) (chainIn (from .waiting)) place → set (r .chains) place (chainIn (from .waiting)) ≡ r .chains
       → (target : Making) → Reached text settings room target from r → Reached text settings room target to after
+
+-- a run, or up to the first row where none waits
+pub record Walks (text : List ℕ) (settings : Settings) (room : Room) (place : ℕ) (from to : Stage) (r after : Records) : Type 0 where
+  pub run : TakesRun text settings room place from to r after
+  pub first : isWaiting (from .waiting) ≡ false
+      → GoesOnTo text settings (stageAt (onwardTo (from .standing .halt) (from .at) (length text)) (from .number) (from .heads) (from .standing)) to

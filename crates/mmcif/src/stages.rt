@@ -17,7 +17,7 @@ ghost use Prim.Native.Nat.{ℕ};
 ghost use lib.ListN.{length};
 ghost use Rattle.building.specs.Holds.{recordsBy};
 ghost use Rattle.building.specs.Sites.{withPlace};
-ghost use Rattle.mmcif.specs.Stages.{onwardTo, numberAfter, chainIn, isWaiting, isOf, stageAt, firstStage, GoesOnTo, TakesRow, TakesRun};
+ghost use Rattle.mmcif.specs.Stages.{onwardTo, numberAfter, chainIn, isWaiting, isOf, isOwn, stageAt, firstStage, GoesOnTo, PutsWaiting, TakesRun, Walks};
 
 // The row that is kept next, with its line.
 pub enum Waiting {
@@ -86,6 +86,16 @@ fn is_of(stage: Stage, name: u64) -> bool
     }
 }
 
+// Whether a run goes on with the row that waits.
+fn is_own(runs: bool, stage: Stage, name: u64) -> bool
+    ensures { λ r. ⌜ r ≡ isOwn runs (stage .waiting) name ⌝ }
+{
+    if runs {
+        return is_of(stage, name);
+    }
+    false
+}
+
 // Up to the next row that is kept, to a refusal, or to the text's end.
 fn to_next_row(
     text: &[u8],
@@ -134,18 +144,52 @@ fn to_next_row(
     }
 }
 
-// The first row of the text, unless the text was refused before all lines.
-pub fn first_row(text: &[u8], settings: Settings, halt: Halt) -> Stage
-    ensures { λ r. ⌜ GoesOnTo (now (text .entry)) settings (firstStage halt (length (now (text .entry)))) r ⌝ }
+// The row that waits is put in where its chain was found. Nothing is done where none waits.
+fn put_waiting(
+    residue_keys: &mut [u64],
+    residue_names: &mut [u64],
+    residue_marks: &mut [u8],
+    atom_keys: &mut [u64],
+    atom_names: &mut [u64],
+    elements: &mut [u8],
+    positions: &mut [[f64; 3]],
+    occupancies: &mut [f64],
+    room: Room,
+    stage: Stage,
+    found: usize,
+) -> Standing
+    ensures { λ r. ⌜ ((chains : List ℕ) →
+        let l = recordsBy (withPlace chains found (chainIn (stage .waiting))) «residue_keys» «residue_names» «residue_marks» «atom_keys» «atom_names» elements positions occupancies in
+        PutsWaiting room found stage r (l .entry) (l .exit)) ⌝ }
 {
-    let heads = line_states::start_heads();
-    let held = none_held();
-    let at = onward(halt, 0, text.len());
-    to_next_row(text, settings, at, 1, heads, Standing { held, halt })
+    let standing = stage.standing;
+    let row = stage.waiting;
+    match row {
+        Waiting::Nothing => standing,
+        Waiting::Row(line, site) => {
+            let held = standing.held;
+            keep_site(
+                residue_keys,
+                residue_names,
+                residue_marks,
+                atom_keys,
+                atom_names,
+                elements,
+                positions,
+                occupancies,
+                room,
+                line,
+                held,
+                found,
+                site,
+            )
+        }
+    }
 }
 
-// The row that waits is put in at its chain's place, and the reading goes on to the next. Nothing is done where none waits.
-fn take_row(
+// The row that waits and all that follow on it in its chain; where none waits, up to the first row. Each step is called from one place alone, so that the compiler builds all of them into
+// this loop: a plan, a site or a stage that comes back from a call costs more than the work on it.
+fn walk(
     text: &[u8],
     residue_keys: &mut [u64],
     residue_names: &mut [u64],
@@ -161,36 +205,77 @@ fn take_row(
     place: usize,
 ) -> Stage
     ensures { λ r. ⌜ ((chains : List ℕ) →
-        let l = recordsBy (withPlace chains place (chainIn (stage .waiting))) «residue_keys» «residue_names» «residue_marks» «atom_keys» «atom_names» elements positions occupancies in
-        TakesRow (now (text .entry)) settings room place stage r (l .entry) (l .exit)) ⌝ }
+        let l = recordsBy (record { entry = chains; exit = chains }) «residue_keys» «residue_names» «residue_marks» «atom_keys» «atom_names» elements positions occupancies in
+        Walks (now (text .entry)) settings room place stage r (l .entry) (l .exit)) ⌝ }
 {
-    let waiting = stage.waiting;
-    match waiting {
-        Waiting::Nothing => stage,
-        Waiting::Row(line, site) => {
-            let standing = stage.standing;
-            let held = standing.held;
-            let kept = keep_site(
-                residue_keys,
-                residue_names,
-                residue_marks,
-                atom_keys,
-                atom_names,
-                elements,
-                positions,
-                occupancies,
-                room,
-                line,
-                held,
-                place,
-                site,
-            );
-            let halt = kept.halt;
-            let at = onward(halt, stage.at, text.len());
-            let heads = stage.heads;
-            to_next_row(text, settings, at, stage.number, heads, kept)
+    let name = chain_in(stage);
+    let runs = waits(stage);
+    let mut now = stage;
+    loop {
+        let kept = put_waiting(
+            residue_keys,
+            residue_names,
+            residue_marks,
+            atom_keys,
+            atom_names,
+            elements,
+            positions,
+            occupancies,
+            room,
+            now,
+            place,
+        );
+        let halt = kept.halt;
+        let at = onward(halt, now.at, text.len());
+        let heads = now.heads;
+        now = to_next_row(text, settings, at, now.number, heads, kept);
+        let more = is_own(runs, now, name);
+        if !more {
+            return now;
         }
     }
+}
+
+// The first row of the text, unless the text was refused before all lines. Nothing is put in before it, so the slices may be as short as can be.
+pub fn first_row(text: &[u8], settings: Settings, halt: Halt) -> Stage
+    ensures { λ r. ⌜ GoesOnTo (now (text .entry)) settings (firstStage halt (length (now (text .entry)))) r ⌝ }
+{
+    let heads = line_states::start_heads();
+    let held = none_held();
+    let at = onward(halt, 0, text.len());
+    let mut residue_keys = [0u64; 1];
+    let mut residue_names = [0u64; 1];
+    let mut residue_marks = [0u8; 1];
+    let mut atom_keys = [0u64; 1];
+    let mut atom_names = [0u64; 1];
+    let mut elements = [0u8; 1];
+    let mut positions = [[0.0; 3]; 1];
+    let mut occupancies = [0.0; 1];
+    walk(
+        text,
+        &mut residue_keys,
+        &mut residue_names,
+        &mut residue_marks,
+        &mut atom_keys,
+        &mut atom_names,
+        &mut elements,
+        &mut positions,
+        &mut occupancies,
+        settings,
+        Room {
+            chains: 0,
+            residues: 0,
+            atoms: 0,
+        },
+        Stage {
+            at,
+            number: 1,
+            heads,
+            standing: Standing { held, halt },
+            waiting: Waiting::Nothing,
+        },
+        0,
+    )
 }
 
 // The row that waits and all that follow on it in its chain, whose name stands at its place in the chain list already. One lifetime for all the slices: a caller that is proved by
@@ -214,24 +299,19 @@ pub fn take_run<'t, 'a>(
         let l = recordsBy (record { entry = chains; exit = chains }) «residue_keys» «residue_names» «residue_marks» «atom_keys» «atom_names» elements positions occupancies in
         TakesRun (now (text .entry)) settings room place stage r (l .entry) (l .exit)) ⌝ }
 {
-    let name = chain_in(stage);
-    let mut now = stage;
-    while is_of(now, name) {
-        now = take_row(
-            text,
-            residue_keys,
-            residue_names,
-            residue_marks,
-            atom_keys,
-            atom_names,
-            elements,
-            positions,
-            occupancies,
-            settings,
-            room,
-            now,
-            place,
-        );
-    }
-    now
+    walk(
+        text,
+        residue_keys,
+        residue_names,
+        residue_marks,
+        atom_keys,
+        atom_names,
+        elements,
+        positions,
+        occupancies,
+        settings,
+        room,
+        stage,
+        place,
+    )
 }
