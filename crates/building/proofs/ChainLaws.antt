@@ -1,12 +1,15 @@
 -- The walk ends at the first chain that is the one sought; where no two are the same, any place at which it stands is that one.
+use Prim.{Dec, yes, no}
 use mathlib.Core.Path.{_≡_, refl, sym, ap, _∙_}
 use mathlib.Core.List.{List, [], _∷_}
 use mathlib.Core.Bool.{Bool, true, false, cond, _||_, false≢true}
-use Prim.Native.Nat.{ℕ, zero, suc, _-_, _≤_, _<_}
+use Prim.Native.Nat.{ℕ, zero, suc, _+_, _≤_, _<_}
 use native.Mathlib.Nat.{le-of-suc-le-suc, not-suc-le-zero}
+use native.Mathlib.Decide.{decLt}
 use native.Mathlib.Omega.{arith}
 use lib.Dec.{eqb}
-use lib.ListN.{length, drop, getD}
+use lib.ListN.{length, drop, getD, length-drop}
+use lib.Seq.{getD-drop}
 use borrow.Author.Tests.{eqb-true, eqb-false, eq-eqb, ne-eqb}
 use Rattle.model.specs.Chains.{chainPlace}
 use Rattle.model.specs.Lists.{any}
@@ -88,3 +91,19 @@ module _ (c : ℕ) where
     there = λ k. e;
     place = λ s. only l i s h e;
   }
+
+  -- a walk from index i on that ends at a chain, and not behind all of them
+  pub walked-from : (l : List ℕ) (i r : ℕ) → r ≡ i + chainPlace c (drop i l) → r < length l → ChainFound l c r
+  walked-from l i r e h = stands l r h (ap (λ (k : ℕ). getD l k 0) e ∙ sym (getD-drop i l (chainPlace c (drop i l)) 0) ∙ there (drop i l) (omega (arith, e, h, length-drop i l)))
+
+  -- a chain that stands at no index
+  pub stands-nowhere : (l : List ℕ) → ((i : ℕ) → i < length l → getD l i 0 ≡ c → ⊥) → ChainFound l c (length l)
+  stands-nowhere l none = record {
+    inside = omega arith;
+    there = λ h. absurd (omega (arith, h));
+    place = λ _. go (decLt (chainPlace c l) (length l));
+  }
+    where
+      go : Dec (chainPlace c l < length l) → length l ≡ chainPlace c l
+      go (yes h) = absurd (none (chainPlace c l) h (there l h))
+      go (no h) = omega (arith, h, inside l)

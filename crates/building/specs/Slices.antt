@@ -14,7 +14,7 @@ abbrev pub Distinct : List ℕ → Type 0
 Distinct [] = Unit {0}
 Distinct (c ∷ l) = (any (eqb c) l ≡ false) × Distinct l
 
--- The last chain is looked at first, so that where two are the same the answer need not be the first of them.
+-- The search begins at the chain of the last run, so that where two are the same the answer need not be the first of them.
 pub record ChainFound (l : List ℕ) (c r : ℕ) : Type 0 where
   pub inside : r ≤ length l
   pub there : r < length l → getD l r 0 ≡ c

@@ -1,17 +1,12 @@
--- The place of a name in a chain list.
+-- The search for a name in a chain list: its k-th place, and where it ends.
 use mathlib.Core.Bool.{cond}
-use mathlib.Core.List.{List}
-use Prim.Native.Nat.{ℕ}
-use lib.Dec.{eqb}
-use lib.ListN.{take}
-use Rattle.model.specs.Chains.{chainPlace}
-use Rattle.chains.specs.declared.chain.Chain.{Chain}
-use Rattle.chains.specs.Names.{namesIn}
+use Prim.Native.Nat.{ℕ, _+_, _-_}
+use lib.Dec.{eqb, ltb}
 
--- where a search ends that stands at i, and would end at `end`
+-- among so many places, from `first` on and round; k where there is no k-th
+unfoldable pub roundAt : ℕ → ℕ → ℕ → ℕ
+roundAt many first k = cond (ltb k many) (cond (ltb k (many - first)) (first + k) (k - (many - first))) k
+
+-- where a search ends that stands at its k-th record, and would end at `end`
 unfoldable pub endAt : ℕ → ℕ → ℕ → ℕ → ℕ
-endAt met name i end = cond (eqb name met) i end
-
--- among the names of the first so many records, and their count where it is not there
-abbrev pub placeIn : ℕ → ℕ → List Chain → ℕ
-placeIn many name chains = chainPlace name (take many (namesIn chains))
+endAt met name k end = cond (eqb name met) k end

@@ -3,36 +3,55 @@
 use crate::chain::Chain;
 use field_slices::smaller;
 ghost use mathlib.Core.Path.{_≡_};
-ghost use lib.ListN.{set};
+ghost use lib.ListN.{take, set};
+ghost use Rattle.building.specs.Slices.{ChainFound};
 ghost use Rattle.field_slices.specs.Clearing.{cleared};
 ghost use Rattle.chains.specs.Names.{chainOf, namesIn};
-ghost use Rattle.chains.specs.Places.{endAt, placeIn};
+ghost use Rattle.chains.specs.Places.{endAt, roundAt};
 
-// Where the search ends: at record i where its name is the one looked for.
-fn end_at(met: u64, name: u64, i: usize, end: usize) -> usize
-    ensures { λ r. ⌜ r ≡ endAt met name i end ⌝ }
+// Where the search ends: at its k-th record where that one's name is the one looked for.
+fn end_at(met: u64, name: u64, k: usize, end: usize) -> usize
+    ensures { λ r. ⌜ r ≡ endAt met name k end ⌝ }
 {
     if met == name {
-        return i;
+        return k;
     }
     end
 }
 
-// The place of the name among the first so many records, or their count; the record there gets the name, where there is one.
-pub fn place_in(chains: &mut [Chain], many: usize, name: u64) -> usize
-    ensures { λ r. ⌜ (r ≡ placeIn many name (now (chains .entry))) × (now (chains .exit) ≡ set (now (chains .entry)) (placeIn many name (now (chains .entry))) (chainOf name)) ⌝ }
+// The k-th place of a search among so many that begins at `first` and goes round; k where there is none.
+fn round(k: usize, first: usize, many: usize) -> usize
+    ensures { λ r. ⌜ r ≡ roundAt many first k ⌝ }
 {
-    let mut end = smaller(many, chains.len());
-    let mut i = 0;
-    while i < end {
+    if k < many {
+        let ahead = many - smaller(first, many);
+        if k < ahead {
+            return first + k;
+        }
+        return k - ahead;
+    }
+    k
+}
+
+// The place of the name among the first so many records, or their count; the record there gets the name, where there is one. The search
+// begins at the last run's chain, since chains come one after the other, and often in turn.
+pub fn place_in(chains: &mut [Chain], many: usize, name: u64, last: usize) -> usize
+    ensures { λ r. ⌜ ChainFound (take many (namesIn (now (chains .entry)))) name r × (now (chains .exit) ≡ set (now (chains .entry)) r (chainOf name)) ⌝ }
+{
+    let count = smaller(many, chains.len());
+    let mut end = count;
+    let mut k = 0;
+    while k < end {
+        let i = round(k, last, count);
         let met = chains[i].name;
-        end = end_at(met, name, i, end);
-        i += 1;
+        end = end_at(met, name, k, end);
+        k += 1;
     }
-    if end < chains.len() {
-        chains[end] = Chain { name: name };
+    let place = round(end, last, count);
+    if place < chains.len() {
+        chains[place] = Chain { name: name };
     }
-    end
+    place
 }
 
 // The records from this one on get the name 0.

@@ -35,12 +35,13 @@ pub fn read_lines(
         Passes (l .entry) room (ahead halt (made room start (actsOf settings (now (text .entry))))) r (l .exit)) ⌝ }
 {
     let mut stage = first_row(text, settings, halt);
+    let mut place = 0;
     while waits(stage) {
         let name = chain_in(stage);
         let standing = stage.standing;
         let held = standing.held;
         let counts = held.counts;
-        let place = chain_place(chains, counts.chains, name);
+        place = chain_place(chains, counts.chains, name, place);
         store_u64(chains, place, name);
         stage = take_run(
             text,

@@ -57,10 +57,11 @@ pub(crate) fn read_runs<'t, 'a>(
         Passes (l .entry) room (ahead halt (made room start (actsOf settings (now (text .entry))))) r (l .exit)) ⌝ }
 {
     let mut stage = first_row(text, settings, halt);
+    let mut place = 0;
     while waits(stage) {
         let many = met(stage);
         let name = chain_in(stage);
-        let place = place_in(chains, many, name);
+        place = place_in(chains, many, name, place);
         stage = take_run(
             text,
             residue_keys,

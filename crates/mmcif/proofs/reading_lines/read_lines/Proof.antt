@@ -18,12 +18,12 @@ use Rattle.mmcif.proofs.reading_lines.read_lines.Statement.{statement}
 use Rattle.mmcif.proofs.reading_lines.read_lines.Tie as tie
 
 abbrev Inv-loop : tie.InvT-loop
-Inv-loop text chains₀ residue-keys₀ residue-names₀ residue-marks₀ atom-keys₀ atom-names₀ elements₀ positions₀ occupancies₀ settings room stage₀ chains residue-keys residue-names residue-marks atom-keys atom-names elements positions occupancies stage =
+Inv-loop text chains₀ residue-keys₀ residue-names₀ residue-marks₀ atom-keys₀ atom-names₀ elements₀ positions₀ occupancies₀ settings room stage₀ place₀ chains residue-keys residue-names residue-marks atom-keys atom-names elements positions occupancies stage place =
     let first = recordsOf chains₀ residue-keys₀ residue-names₀ residue-marks₀ atom-keys₀ atom-names₀ elements₀ positions₀ occupancies₀ in
     (target : Making) → UnderWay text settings room first target stage₀ first → UnderWay text settings room first target stage (recordsOf chains residue-keys residue-names residue-marks atom-keys atom-names elements positions occupancies)
 
 abbrev μ-loop : tie.MeasureT-loop
-μ-loop text chains₀ residue-keys₀ residue-names₀ residue-marks₀ atom-keys₀ atom-names₀ elements₀ positions₀ occupancies₀ settings room stage₀ chains residue-keys residue-names residue-marks atom-keys atom-names elements positions occupancies stage = left text stage
+μ-loop text chains₀ residue-keys₀ residue-names₀ residue-marks₀ atom-keys₀ atom-names₀ elements₀ positions₀ occupancies₀ settings room stage₀ place₀ chains residue-keys residue-names residue-marks atom-keys atom-names elements positions occupancies stage place = left text stage
 
 -- the slices at entry, at the head of the loop, and as a run leaves them
 abbrev entry : tie.Start Inv-loop μ-loop → Records
