@@ -1,4 +1,5 @@
 //! What became of one file.
+use crate::reason::Reason;
 use std::fs::File;
 use std::io::{self, Read};
 use std::path::{Path, PathBuf};
@@ -33,6 +34,14 @@ impl Audit {
         Self {
             file: file.to_path_buf(),
             outcome,
+        }
+    }
+
+    /// Why the file is marked; none for one that was not taken in, whose outcome says enough.
+    pub fn reasons(&self) -> Vec<Reason> {
+        match &self.outcome {
+            Outcome::Taken(counts) => Reason::all_of(&counts.report),
+            Outcome::Refused(_) | Outcome::Unreadable(_) => Vec::new(),
         }
     }
 }

@@ -1,12 +1,13 @@
 //! One JSON object to a file, each on a line of its own.
 use crate::audit::{Audit, Counts, Outcome};
+use crate::reason::Reason;
 use std::fmt::Write;
 use structure_intake::{Refusal, Report};
 
 pub fn object(audit: &Audit) -> String {
     let file = string(&audit.file.to_string_lossy());
     let outcome = match &audit.outcome {
-        Outcome::Taken(counts) => taken(counts),
+        Outcome::Taken(counts) => taken(counts, &audit.reasons()),
         Outcome::Refused(refusal) => refused(refusal),
         Outcome::Unreadable(why) => {
             format!(r#""outcome":"unreadable","sentence":{}"#, string(why))
@@ -15,7 +16,7 @@ pub fn object(audit: &Audit) -> String {
     format!("{{\"file\":{file},{outcome}}}\n")
 }
 
-fn taken(counts: &Counts) -> String {
+fn taken(counts: &Counts, reasons: &[Reason]) -> String {
     let Counts {
         chains,
         residues,
@@ -32,7 +33,19 @@ fn taken(counts: &Counts) -> String {
     let of_model = format!(r#""chains":{chains},"residues":{residues},"atoms":{atoms}"#);
     let of_rows =
         format!(r#""rows":{rows},"skipped":{skipped},"outdone":{outdone},"assumed":{assumed}"#);
-    format!(r#""outcome":"taken",{of_model},{of_rows}"#)
+    let reasons: Vec<String> = reasons.iter().map(|reason| string(word(reason))).collect();
+    let reasons = reasons.join(",");
+    format!(r#""outcome":"taken",{of_model},{of_rows},"reasons":[{reasons}]"#)
+}
+
+/// Without the numbers, which have fields of their own, so that it can be looked for.
+fn word(reason: &Reason) -> &'static str {
+    match reason {
+        Reason::NoRows => "no rows",
+        Reason::NoAtoms => "no atoms",
+        Reason::MostOutdone { .. } => "most rows outdone",
+        Reason::OccupanciesAssumed(_) => "occupancies assumed",
+    }
 }
 
 fn refused(refusal: &Refusal) -> String {
@@ -93,19 +106,19 @@ mod tests {
         let report = Report {
             bytes_written: 720,
             rows: 9,
-            skipped: 1,
-            outdone: 2,
+            skipped: 0,
+            outdone: 5,
             assumed: 3,
         };
         let counts = Counts {
-            chains: 4,
-            residues: 5,
-            atoms: 6,
+            chains: 1,
+            residues: 2,
+            atoms: 4,
             report,
         };
         assert_eq!(
             object(Outcome::Taken(counts)),
-            "{\"file\":\"a\",\"outcome\":\"taken\",\"chains\":4,\"residues\":5,\"atoms\":6,\"rows\":9,\"skipped\":1,\"outdone\":2,\"assumed\":3}\n"
+            "{\"file\":\"a\",\"outcome\":\"taken\",\"chains\":1,\"residues\":2,\"atoms\":4,\"rows\":9,\"skipped\":0,\"outdone\":5,\"assumed\":3,\"reasons\":[\"most rows outdone\",\"occupancies assumed\"]}\n"
         );
         let refusal = Refusal {
             number: 8,

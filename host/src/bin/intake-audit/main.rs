@@ -1,9 +1,11 @@
 //! intake-audit FILE..: takes in each file with room to spare, and tells which were refused and
-//! which rest on assumptions.
+//! which are marked as doubtful.
 mod audit;
 mod json;
 mod options;
 mod progress;
+#[path = "../shared/reason.rs"]
+mod reason;
 mod table;
 
 use audit::{Audit, Outcome};
@@ -41,13 +43,13 @@ fn run(options: &Options) -> io::Result<u8> {
     let mut out = io::stdout().lock();
     out.write_all(text.as_bytes())?;
     out.flush()?;
-    Ok(status(&audits))
+    Ok(status(&audits, options.strict))
 }
 
-/// 2 if a file cannot be read, else 1 if one is refused, else 0.
-fn status(audits: &[Audit]) -> u8 {
+/// 2 if a file cannot be read, else 1 if one is refused, or marked where that is not let pass, else 0.
+fn status(audits: &[Audit], strict: bool) -> u8 {
     let of_one = |audit: &Audit| match audit.outcome {
-        Outcome::Taken(_) => 0,
+        Outcome::Taken(_) => u8::from(strict && !audit.reasons().is_empty()),
         Outcome::Refused(_) => 1,
         Outcome::Unreadable(_) => 2,
     };

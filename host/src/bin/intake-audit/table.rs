@@ -26,7 +26,7 @@ pub fn table(audits: &[Audit]) -> String {
 fn line(audit: &Audit) -> Line {
     let file = shown(&audit.file.to_string_lossy());
     let (mark, numbers, outcome) = match &audit.outcome {
-        Outcome::Taken(counts) => (mark(counts), numbers(counts), told(counts)),
+        Outcome::Taken(counts) => (mark(audit), numbers(counts), taken(audit)),
         Outcome::Refused(refusal) => ("", missing(), format!("refused: {refusal}")),
         Outcome::Unreadable(why) => ("", missing(), format!("cannot be read: {why}")),
     };
@@ -45,16 +45,16 @@ fn line(audit: &Audit) -> Line {
     ]
 }
 
-fn mark(counts: &Counts) -> &'static str {
-    if counts.report.assumed == 0 { "" } else { "!" }
+fn mark(audit: &Audit) -> &'static str {
+    if audit.reasons().is_empty() { "" } else { "!" }
 }
 
-fn told(counts: &Counts) -> String {
-    match counts.report.assumed {
-        0 => "taken".to_string(),
-        1 => "taken, 1 occupancy assumed".to_string(),
-        assumed => format!("taken, {assumed} occupancies assumed"),
+fn taken(audit: &Audit) -> String {
+    let mut told = "taken".to_string();
+    for reason in audit.reasons() {
+        told.push_str(&format!(", {reason}"));
     }
+    told
 }
 
 fn numbers(counts: &Counts) -> [String; 7] {
@@ -96,17 +96,16 @@ fn aligned(line: &Line, widths: &[usize; HEADS.len()]) -> String {
 }
 
 fn sum(audits: &[Audit]) -> String {
-    let count = |is: fn(&Outcome) -> bool| audits.iter().filter(|audit| is(&audit.outcome)).count();
-    let taken = count(|outcome| matches!(outcome, Outcome::Taken(_)));
-    let assuming =
-        count(|outcome| matches!(outcome, Outcome::Taken(counts) if counts.report.assumed > 0));
-    let refused = count(|outcome| matches!(outcome, Outcome::Refused(_)));
-    let unreadable = count(|outcome| matches!(outcome, Outcome::Unreadable(_)));
+    let count = |is: fn(&Audit) -> bool| audits.iter().filter(|audit| is(audit)).count();
+    let taken = count(|audit| matches!(audit.outcome, Outcome::Taken(_)));
+    let marked = count(|audit| !audit.reasons().is_empty());
+    let refused = count(|audit| matches!(audit.outcome, Outcome::Refused(_)));
+    let unreadable = count(|audit| matches!(audit.outcome, Outcome::Unreadable(_)));
     let files = match audits.len() {
         1 => "1 file".to_string(),
         many => format!("{many} files"),
     };
     format!(
-        "{files}: {taken} taken, {assuming} of them with assumptions (!); {refused} refused; {unreadable} cannot be read\n"
+        "{files}: {taken} taken, {marked} of them marked (!); {refused} refused; {unreadable} cannot be read\n"
     )
 }
