@@ -2,7 +2,12 @@
 mod folder;
 
 use folder::{Folder, case};
-use std::process::Output;
+use std::fs::{self, File};
+use std::io::{BufRead, BufReader};
+use std::process::{Output, Stdio};
+use std::sync::mpsc;
+use std::thread;
+use std::time::Duration;
 use structure_intake::LONGEST_TEXT;
 
 /// A folder with a file for each outcome.
@@ -86,9 +91,9 @@ fn the_status_tells_the_worst() {
     assert_eq!(status(&["sure.cif", "assumed.cif"]), Some(0));
     assert_eq!(status(&["sure.cif", "beyond.cif", "assumed.cif"]), Some(1));
     assert_eq!(status(&["none.cif", "beyond.cif"]), Some(2));
-    assert_eq!(status(&["."]), Some(2));
     assert_eq!(status(&[]), Some(2));
     assert_eq!(status(&["--jsn", "sure.cif"]), Some(2));
+    assert_eq!(status(&["--jobs", "0", "sure.cif"]), Some(2));
     assert_eq!(status(&["--help"]), Some(0));
 }
 
@@ -127,7 +132,7 @@ fn a_text_that_is_too_long_is_refused() {
 fn machines_get_an_object_to_a_line() {
     let folder = outcomes("json");
     let files = ["a\"b\\c.cif", "empty.cif", "beyond.cif", "none.cif"];
-    let output = audit(&folder, &[&["--json"], &files[..]].concat());
+    let output = audit(&folder, &[&["--json", "--jobs", "1"], &files[..]].concat());
     let expected = r#"{"file":"a\"b\\c.cif","outcome":"taken","chains":1,"residues":2,"atoms":2,"rows":3,"skipped":0,"outdone":1,"assumed":1,"reasons":["occupancies assumed"]}
 {"file":"empty.cif","outcome":"taken","chains":0,"residues":0,"atoms":0,"rows":0,"skipped":0,"outdone":0,"assumed":0,"reasons":["no rows"]}
 {"file":"beyond.cif","outcome":"refused","number":8,"line":13,"detail":4,"sentence":"line 13: the occupancy is beyond reach"}
@@ -135,4 +140,126 @@ fn machines_get_an_object_to_a_line() {
 "#;
     assert_eq!(printed(&output), expected);
     assert_eq!(output.status.code(), Some(2));
+}
+
+/// So that what was found is not lost with a run that is ended: here the second file is still to come.
+#[test]
+fn a_line_comes_as_soon_as_its_file_is_done() {
+    let folder = outcomes("lines");
+    let arguments = ["--json", "--jobs", "1", "sure.cif", "-"];
+    let mut audit = folder.command(env!("CARGO_BIN_EXE_intake-audit"), &arguments);
+    let audit = audit.stdin(Stdio::piped()).stdout(Stdio::piped());
+    let mut audit = audit.spawn().expect("the audit runs");
+    let lines = BufReader::new(audit.stdout.take().expect("it is a pipe")).lines();
+    let (sender, receiver) = mpsc::channel();
+    let reader = thread::spawn(move || lines.for_each(|line| sender.send(line).expect("heard")));
+    let next = || receiver.recv_timeout(Duration::from_secs(60));
+    let first = next().expect("a line comes").expect("it is text");
+    assert!(first.starts_with(r#"{"file":"sure.cif","#), "{first}");
+    drop(audit.stdin.take());
+    let second = next().expect("a line comes").expect("it is text");
+    assert!(second.starts_with(r#"{"file":"-","#), "{second}");
+    reader.join().expect("nothing is left to read");
+    assert!(audit.wait().expect("the audit ends").success());
+}
+
+#[test]
+fn the_order_does_not_hang_on_the_jobs() {
+    let folder = outcomes("jobs");
+    let table = |jobs| {
+        printed(&audit(
+            &folder,
+            &["--jobs", jobs, "pdb.cif", ".", "none.cif"],
+        ))
+    };
+    let one = table("1");
+    let names: Vec<&str> = one
+        .lines()
+        .filter_map(|line| line[3..].split(' ').next())
+        .collect();
+    assert_eq!(names.len(), 16);
+    assert_eq!(
+        (names[1], names[2], names[14]),
+        ("pdb.cif", "./a\"b\\c.cif", "none.cif")
+    );
+    assert_eq!(table("4"), one);
+
+    let lines = |jobs| {
+        let output = audit(&folder, &["--json", "--jobs", jobs, "."]);
+        let mut lines: Vec<String> = printed(&output).lines().map(String::from).collect();
+        lines.sort_unstable();
+        lines
+    };
+    assert_eq!(lines("1").len(), 12);
+    assert_eq!(lines("4"), lines("1"));
+}
+
+#[test]
+fn a_folder_is_walked_in_the_order_of_names() {
+    let folder = Folder::new("audit-walk");
+    for below in ["in/b", "in/empty", "in/d.cif", "none"] {
+        fs::create_dir_all(folder.path(below)).expect("a folder can be made");
+    }
+    let names = [
+        "in/c.cif",
+        "in/b/z.mmcif",
+        "in/b/a.CIF",
+        "in/a.cif",
+        "in/d.cif/e.cif",
+    ];
+    for name in names
+        .iter()
+        .chain(&["in/notes.txt", "in/a.cif.bak", "none/a.pdb"])
+    {
+        folder.write(name, case());
+    }
+    let output = audit(&folder, &["in", "none"]);
+    let expected = "   file            chains  residues  atoms  rows  skipped  outdone  assumed  outcome
+!  in/a.cif             1         2      2     3        0        1        1  taken, 1 occupancy assumed
+!  in/b/a.CIF           1         2      2     3        0        1        1  taken, 1 occupancy assumed
+!  in/b/z.mmcif         1         2      2     3        0        1        1  taken, 1 occupancy assumed
+!  in/c.cif             1         2      2     3        0        1        1  taken, 1 occupancy assumed
+!  in/d.cif/e.cif       1         2      2     3        0        1        1  taken, 1 occupancy assumed
+   none                 -         -      -     -        -        -        -  cannot be read: no .cif or .mmcif file is in it
+6 files: 5 taken, 5 of them marked (!); 0 refused; 1 cannot be read
+";
+    assert_eq!(printed(&output), expected);
+    assert_eq!(output.status.code(), Some(2));
+}
+
+/// A link may lead back, and then the walk would have no end.
+#[cfg(unix)]
+#[test]
+fn a_walk_enters_no_linked_folder() {
+    let folder = Folder::new("audit-link");
+    folder.write("a.cif", case());
+    std::os::unix::fs::symlink(".", folder.path("loop")).expect("a link can be made");
+    let output = audit(&folder, &["--json", "."]);
+    assert_eq!(printed(&output).lines().count(), 1);
+    // One that is named is walked.
+    let output = audit(&folder, &["--json", "loop"]);
+    assert!(printed(&output).starts_with(r#"{"file":"loop/a.cif","outcome":"taken""#));
+}
+
+#[test]
+fn standard_input_is_a_file_too() {
+    let folder = outcomes("input");
+    let input = File::open(folder.path("beyond.cif")).expect("the file is there");
+    let mut audit = folder.command(env!("CARGO_BIN_EXE_intake-audit"), &["sure.cif", "-"]);
+    let output = audit.stdin(input).output().expect("the audit runs");
+    let expected = "  file      chains  residues  atoms  rows  skipped  outdone  assumed  outcome
+  sure.cif       1         2      2     3        0        1        0  taken
+  -              -         -      -     -        -        -        -  refused: line 13: the occupancy is beyond reach
+2 files: 1 taken, 0 of them marked (!); 1 refused; 0 cannot be read
+";
+    assert_eq!(printed(&output), expected);
+    assert_eq!(output.status.code(), Some(1));
+}
+
+#[test]
+fn the_version_is_that_of_the_crate() {
+    let output = audit(&Folder::new("audit-version"), &["--version"]);
+    let expected = concat!("intake-audit ", env!("CARGO_PKG_VERSION"), "\n");
+    assert_eq!(printed(&output), expected);
+    assert_eq!(output.status.code(), Some(0));
 }

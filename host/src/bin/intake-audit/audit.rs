@@ -1,9 +1,9 @@
 //! What became of one file.
+use crate::input;
 use crate::reason::Reason;
-use std::fs::File;
-use std::io::{self, Read};
-use std::path::{Path, PathBuf};
-use structure_intake::{LONGEST_TEXT, Refusal, Report, Room};
+use crate::walk::Found;
+use std::path::PathBuf;
+use structure_intake::{Refusal, Report, Room};
 
 pub struct Audit {
     pub file: PathBuf,
@@ -13,7 +13,7 @@ pub struct Audit {
 pub enum Outcome {
     Taken(Counts),
     Refused(Refusal),
-    /// What the system says.
+    /// Why, as the system says where it is to blame.
     Unreadable(String),
 }
 
@@ -26,13 +26,16 @@ pub struct Counts {
 }
 
 impl Audit {
-    pub fn of_file(file: &Path) -> Self {
-        let outcome = match read(file) {
-            Ok(text) => Outcome::of_text(&text),
-            Err(error) => Outcome::Unreadable(error.to_string()),
+    pub fn of(found: &Found) -> Self {
+        let (file, outcome) = match found {
+            Found::Lost(folder, why) => (folder, Outcome::Unreadable(why.clone())),
+            Found::Text(file) => match input::read(file) {
+                Ok(text) => (file, Outcome::of_text(&text)),
+                Err(error) => (file, Outcome::Unreadable(error.to_string())),
+            },
         };
         Self {
-            file: file.to_path_buf(),
+            file: file.clone(),
             outcome,
         }
     }
@@ -59,12 +62,4 @@ impl Outcome {
             Err(refusal) => Self::Refused(refusal),
         }
     }
-}
-
-/// A text that is too long is refused whatever it holds, so no more is read than shows that it is.
-fn read(file: &Path) -> io::Result<Vec<u8>> {
-    let mut text = Vec::new();
-    let longest = LONGEST_TEXT as u64 + 1;
-    File::open(file)?.take(longest).read_to_end(&mut text)?;
-    Ok(text)
 }

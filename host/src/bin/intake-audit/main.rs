@@ -1,12 +1,16 @@
 //! intake-audit FILE..: takes in each file with room to spare, and tells which were refused and
 //! which are marked as doubtful.
 mod audit;
+mod crew;
+#[path = "../shared/input.rs"]
+mod input;
 mod json;
 mod options;
 mod progress;
 #[path = "../shared/reason.rs"]
 mod reason;
 mod table;
+mod walk;
 
 use audit::{Audit, Outcome};
 use options::Options;
@@ -22,36 +26,46 @@ fn main() -> ExitCode {
     };
     match run(&options) {
         Ok(status) => ExitCode::from(status),
-        // Whoever reads the output may stop reading it; what was found is then not told.
-        Err(_) => ExitCode::from(2),
+        Err(error) => {
+            // Whoever reads the output may stop reading it; that need not be told.
+            if error.kind() != io::ErrorKind::BrokenPipe {
+                eprintln!("intake-audit: the output cannot be written: {error}");
+            }
+            ExitCode::from(2)
+        }
     }
 }
 
 fn run(options: &Options) -> io::Result<u8> {
-    let mut progress = Progress::new(options.files.len());
-    let mut audits = Vec::new();
-    for file in &options.files {
-        progress.show(&file.to_string_lossy());
-        audits.push(Audit::of_file(file));
-    }
-    progress.clear();
-    let text = if options.json {
-        audits.iter().map(json::object).collect()
-    } else {
-        table::table(&audits)
-    };
+    let list = walk::all_of(&options.files);
     let mut out = io::stdout().lock();
-    out.write_all(text.as_bytes())?;
+    let mut progress = Progress::new(list.len(), options.json);
+    let mut worst = 0;
+    let mut audits = Vec::new();
+    crew::audit_all(&list, options.jobs, |place, audit| {
+        worst = worst.max(status(&audit, options.strict));
+        progress.done(&audit.file.to_string_lossy());
+        if options.json {
+            return out.write_all(json::object(&audit).as_bytes());
+        }
+        audits.push((place, audit));
+        Ok(())
+    })?;
+    progress.clear();
+    if !options.json {
+        audits.sort_by_key(|&(place, _)| place);
+        let audits: Vec<Audit> = audits.into_iter().map(|(_, audit)| audit).collect();
+        out.write_all(table::table(&audits).as_bytes())?;
+    }
     out.flush()?;
-    Ok(status(&audits, options.strict))
+    Ok(worst)
 }
 
-/// 2 if a file cannot be read, else 1 if one is refused, or marked where that is not let pass, else 0.
-fn status(audits: &[Audit], strict: bool) -> u8 {
-    let of_one = |audit: &Audit| match audit.outcome {
+/// 2 for a file that cannot be read, 1 for one that is refused, or marked where that is not let pass.
+fn status(audit: &Audit, strict: bool) -> u8 {
+    match audit.outcome {
         Outcome::Taken(_) => u8::from(strict && !audit.reasons().is_empty()),
         Outcome::Refused(_) => 1,
         Outcome::Unreadable(_) => 2,
-    };
-    audits.iter().map(of_one).max().unwrap_or(0)
+    }
 }

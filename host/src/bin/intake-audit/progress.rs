@@ -1,4 +1,5 @@
-//! A progress bar on a terminal; nothing where the output or the messages go elsewhere.
+//! A progress bar on the terminal that gets the messages; none if they go elsewhere, or if the output
+//! comes there line by line and so tells the progress itself.
 use std::io::{self, IsTerminal, Write};
 
 const WIDTH: usize = 30;
@@ -12,21 +13,27 @@ pub struct Progress {
 }
 
 impl Progress {
-    pub fn new(all: usize) -> Self {
-        let shown = io::stdout().is_terminal() && io::stderr().is_terminal();
-        Self {
-            shown,
+    pub fn new(all: usize, line_by_line: bool) -> Self {
+        let told = line_by_line && io::stdout().is_terminal();
+        let progress = Self {
+            shown: io::stderr().is_terminal() && !told,
             done: 0,
             all,
-        }
+        };
+        progress.show("");
+        progress
     }
 
-    /// Shows that this file comes next, behind those that were shown before.
-    pub fn show(&mut self, file: &str) {
+    /// One more is done, and this is its name.
+    pub fn done(&mut self, file: &str) {
+        self.done += 1;
+        self.show(file);
+    }
+
+    fn show(&self, file: &str) {
         if self.shown {
             draw(&format!("{} {}", bar(self.done, self.all), end(file)));
         }
-        self.done += 1;
     }
 
     pub fn clear(&self) {
