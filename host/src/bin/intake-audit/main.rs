@@ -10,10 +10,12 @@ mod progress;
 #[path = "../shared/reason.rs"]
 mod reason;
 mod table;
+#[path = "../shared/told.rs"]
+mod told;
 mod walk;
 
 use audit::{Audit, Outcome};
-use options::Options;
+use options::{Options, USAGE};
 use progress::Progress;
 use std::env;
 use std::io::{self, Write};
@@ -22,7 +24,7 @@ use std::process::ExitCode;
 fn main() -> ExitCode {
     let options = match Options::of_arguments(env::args_os().skip(1)) {
         Ok(options) => options,
-        Err(told) => return told.tell(),
+        Err(told) => return told.tell(USAGE),
     };
     match run(&options) {
         Ok(status) => ExitCode::from(status),

@@ -1,12 +1,12 @@
 //! What the command line asks for.
 use crate::input;
+use crate::told::Told;
 use std::ffi::OsString;
 use std::num::NonZero;
 use std::path::PathBuf;
-use std::process::ExitCode;
 use std::thread;
 
-const USAGE: &str = "usage: intake-audit [--json] [--strict] [--jobs N] FILE..
+pub const USAGE: &str = "usage: intake-audit [--json] [--strict] [--jobs N] FILE..
 
 Takes in each mmCIF file and prints a table: chains, residues, atoms, rows, rows that were
 skipped, rows outdone by another row of their atom, rows whose occupancy was assumed to be
@@ -35,28 +35,6 @@ pub struct Options {
     pub jobs: usize,
     /// Folders among them.
     pub files: Vec<PathBuf>,
-}
-
-/// What is told where no file is to be audited.
-#[derive(Debug, PartialEq, Eq)]
-pub enum Told {
-    Help,
-    Version,
-    Wrong(String),
-}
-
-impl Told {
-    pub fn tell(&self) -> ExitCode {
-        match self {
-            Self::Help => print!("{USAGE}"),
-            Self::Version => println!("intake-audit {}", env!("CARGO_PKG_VERSION")),
-            Self::Wrong(why) => {
-                eprint!("intake-audit: {why}\n{USAGE}");
-                return ExitCode::from(2);
-            }
-        }
-        ExitCode::SUCCESS
-    }
 }
 
 impl Options {
