@@ -2,6 +2,7 @@
 mod folder;
 
 use folder::{Folder, case};
+use std::collections::BTreeSet;
 use std::fs::{self, File};
 use std::io::{BufRead, BufReader};
 use std::process::{Output, Stdio};
@@ -262,4 +263,30 @@ fn the_version_is_that_of_the_crate() {
     let expected = concat!("intake-audit ", env!("CARGO_PKG_VERSION"), "\n");
     assert_eq!(printed(&output), expected);
     assert_eq!(output.status.code(), Some(0));
+}
+
+#[test]
+fn the_readme_tells_every_field_and_reason() {
+    let readme = fs::read_to_string(concat!(env!("CARGO_MANIFEST_DIR"), "/../README.md"));
+    let readme = readme.expect("the readme is there");
+    let fields: Vec<&str> = readme
+        .lines()
+        .filter(|line| line.starts_with("| `"))
+        .collect();
+    let output = audit(&outcomes("readme"), &["--json", ".", "none.cif"]);
+    let printed = printed(&output);
+    // Each text between quotes but file names and sentences, which hold more than small letters.
+    let told = printed.lines().filter(|line| !line.contains('\\'));
+    let words = told.flat_map(|line| line.split('"').skip(1).step_by(2));
+    let plain = |word: &&str| {
+        word.chars()
+            .all(|letter| letter.is_ascii_lowercase() || letter == ' ')
+    };
+    let words: BTreeSet<&str> = words.filter(plain).collect();
+    // Fourteen fields, three outcomes and four reasons.
+    assert_eq!(words.len(), 14 + 3 + 4);
+    for word in words {
+        let quoted = format!("`{word}`");
+        assert!(fields.iter().any(|line| line.contains(&quoted)), "{word}");
+    }
 }
