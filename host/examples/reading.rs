@@ -11,13 +11,11 @@ fn main() -> Result<(), Box<dyn Error>> {
     let (report, _) = room.intake_whole(&text)?;
     println!("{report:?}");
     let chains: Vec<Chain> = room.chains().collect();
-    // Atoms stand in the order of their residues.
-    let mut atoms = room.atoms().peekable();
     for residue in room.residues() {
         let chain = chains[residue.key.chain].name;
         let (sequence, name) = (residue.key.sequence, residue.name);
         println!("{chain} {sequence} {name} {:?}", residue.category);
-        while let Some(atom) = atoms.next_if(|atom| atom.residue == residue.key) {
+        for atom in room.atoms_of(&residue) {
             show(&atom);
         }
     }

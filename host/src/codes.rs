@@ -7,10 +7,15 @@ pub const STANDARD_RESIDUES: [&str; 31] = [
     "DT", "DI", "HOH",
 ];
 
+/// What kind of residue one is.
 #[derive(Debug, Clone, Copy, PartialEq, Eq, Hash)]
+#[non_exhaustive]
 pub enum Category {
+    /// Its name is known: it is one of the [standard residues](STANDARD_RESIDUES).
     Standard,
+    /// Its name is not known, and it has more than one atom.
     Hetero,
+    /// Its name is not known, and it has one atom.
     Ion,
 }
 
@@ -25,14 +30,21 @@ impl Category {
     }
 }
 
-/// Where a residue stands in its chain.
+/// Where a residue stands in its chain, of which only standard residues other than water count.
 #[derive(Debug, Clone, Copy, PartialEq, Eq, Hash)]
+#[non_exhaustive]
 pub enum Position {
+    /// It does not count.
     None,
+    /// Between the first and the last.
     Internal,
+    /// The first, an amino acid.
     NTerminal,
+    /// The last, an amino acid, and not the first.
     CTerminal,
+    /// The first, a nucleotide.
     FivePrime,
+    /// The last, a nucleotide, and not the first.
     ThreePrime,
 }
 

@@ -23,9 +23,11 @@
 //! let mut room = Room::for_text(text);
 //! let (report, out) = room.intake_whole(text).unwrap();
 //! assert_eq!(out, include_bytes!("../../examples/case.out.cif"));
-//! let names: Vec<String> = room.residues().map(|residue| residue.name.to_string()).collect();
-//! assert_eq!(names, ["MET", "QQQ"]);
-//! assert_eq!(room.atoms().count(), report.atoms());
+//! assert_eq!(room.atoms().len(), report.atoms());
+//! for residue in room.residues().filter(|residue| residue.name == "MET") {
+//!     let symbols: Vec<&str> = room.atoms_of(&residue).map(|atom| atom.symbol()).collect();
+//!     assert_eq!(symbols, ["C"]);
+//! }
 //! ```
 //!
 //! A text that is not taken in says why:
@@ -36,6 +38,8 @@
 //! assert_eq!((refusal.number, refusal.line, refusal.detail), (5, 3, 2));
 //! assert_eq!(refusal.to_string(), "line 3: there is no column for the residue name");
 //! ```
+#![deny(missing_docs)]
+
 mod call;
 mod codes;
 mod limits;
@@ -45,6 +49,7 @@ mod records;
 mod refusal;
 mod report;
 mod room;
+mod symbols;
 
 pub use codes::{Category, Position, STANDARD_RESIDUES};
 pub use limits::{LONGEST_TEXT, MOST_ATOMS, MOST_CHAINS, MOST_RESIDUES};

@@ -1,9 +1,13 @@
 //! Chains, residues and atoms of a model, each taken out of the records by value.
 use crate::codes::{Category, Position};
 use crate::name::Name;
+use crate::symbols;
 
+/// A chain of the model.
 #[derive(Debug, Clone, Copy, PartialEq, Eq)]
+#[non_exhaustive]
 pub struct Chain {
+    /// The name that the text gives; `?` where that is `.`.
     pub name: Name,
 }
 
@@ -12,7 +16,9 @@ pub struct Chain {
 pub struct Key {
     /// The chain's place in the model, from 0.
     pub chain: usize,
+    /// 1 where the text has none of 32 bits.
     pub sequence: i32,
+    /// None is before all others.
     pub insertion_code: Option<char>,
 }
 
@@ -29,27 +35,43 @@ impl Key {
     }
 }
 
+/// A residue of the model.
 #[derive(Debug, Clone, Copy, PartialEq, Eq)]
+#[non_exhaustive]
 pub struct Residue {
+    /// Its chain, its sequence number and its insertion code.
     pub key: Key,
     /// The canonical name of a standard residue; of others the name that the text gives.
     pub name: Name,
     /// Which of the [standard residues](crate::STANDARD_RESIDUES) it is, if one.
     pub standard: Option<&'static str>,
+    /// Standard, hetero or ion.
     pub category: Category,
+    /// Where it stands in its chain.
     pub position: Position,
 }
 
+/// An atom of the model.
 #[derive(Debug, Clone, Copy, PartialEq)]
+#[non_exhaustive]
 pub struct Atom {
     /// The key of its residue.
     pub residue: Key,
+    /// The name that the text gives.
     pub name: Name,
     /// The atomic number, 0 for unknown.
     pub element: u8,
+    /// x, y and z of the row that was kept.
     pub position: [f64; 3],
     /// That of the row that was kept.
     pub occupancy: f64,
+}
+
+impl Atom {
+    /// The element's symbol as it is written, `X` for unknown.
+    pub fn symbol(&self) -> &'static str {
+        symbols::of_element(self.element)
+    }
 }
 
 #[cfg(test)]

@@ -1,6 +1,7 @@
 //! The name of a chain, a residue or an atom: 1 to 8 bytes of ASCII.
 use std::fmt;
 
+/// Names are in the order of their bytes, and compare with texts: `atom.name == "CA"`.
 #[derive(Clone, Copy, PartialEq, Eq, PartialOrd, Ord, Hash)]
 pub struct Name([u8; 8]);
 
@@ -10,9 +11,22 @@ impl Name {
         Self(packed.to_be_bytes())
     }
 
+    /// The bytes without padding.
     pub fn as_bytes(&self) -> &[u8] {
         let length = self.0.iter().position(|&byte| byte == 0);
         &self.0[..length.unwrap_or(self.0.len())]
+    }
+}
+
+impl PartialEq<str> for Name {
+    fn eq(&self, text: &str) -> bool {
+        self.as_bytes() == text.as_bytes()
+    }
+}
+
+impl PartialEq<&str> for Name {
+    fn eq(&self, text: &&str) -> bool {
+        *self == **text
     }
 }
 
@@ -43,6 +57,15 @@ mod tests {
     fn eight_bytes_need_no_zero() {
         let name = Name::of_packed(u64::from_be_bytes(*b"ABCDEFGH"));
         assert_eq!(name.as_bytes(), b"ABCDEFGH");
+    }
+
+    #[test]
+    fn names_equal_their_own_text_alone() {
+        let name = Name::of_packed(0x4341_0000_0000_0000);
+        assert!(name == "CA" && name == *"CA");
+        for other in ["", "C", "CA ", "CA\0", "CB", "ca"] {
+            assert!(name != other && name != *other, "{other:?}");
+        }
     }
 
     #[test]

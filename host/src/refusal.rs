@@ -2,8 +2,10 @@
 use std::error::Error;
 use std::fmt;
 
-#[derive(Debug, Clone, Copy, PartialEq, Eq, Hash)]
+/// Why a text is not taken in. Its constants are the numbers; as text it is a sentence.
+#[derive(Clone, Copy, PartialEq, Eq, Hash)]
 pub struct Refusal {
+    /// Which of the refusals it is.
     pub number: u32,
     /// Counted from 1; 0 where no line is to blame.
     pub line: u32,
@@ -12,20 +14,37 @@ pub struct Refusal {
 }
 
 impl Refusal {
+    /// The text has more than 16,777,216 bytes.
     pub const TEXT_TOO_LONG: u32 = 1;
+    /// A byte is not 9, 10, 32 to 126, or 13 directly before 10; the detail is the first such byte.
     pub const OUTSIDE_DOMAIN: u32 = 2;
+    /// A line has more than 2,048 bytes without its ending.
     pub const LINE_TOO_LONG: u32 = 3;
+    /// A loop has a 65th header.
     pub const TOO_MANY_HEADERS: u32 = 4;
+    /// A column is missing; details 1 to 7: atom, residue, chain, sequence, x, y, z.
     pub const COLUMN_MISSING: u32 = 5;
+    /// A row ends before a column that is read.
     pub const ROW_SHORT: u32 = 6;
+    /// A coordinate is no number; details 1 to 3: x, y, z.
     pub const OUTSIDE_GRAMMAR: u32 = 7;
+    /// A number is a word, has an exponent or more than 15 digits, leading zeros counted, or is above
+    /// 1,000,000 in magnitude; details 1 to 4: x, y, z, occupancy.
     pub const BEYOND_REACH: u32 = 8;
+    /// A name has more than 8 bytes; details 1 to 3: atom, residue, chain.
     pub const NAME_TOO_LONG: u32 = 9;
+    /// There is no room for what a row brings; details 1 to 3: chain, residue, atom.
     pub const NO_ROOM: u32 = 10;
+    /// A residue is unknown and not marked HETATM; the detail is its place in the model, from 1.
     pub const UNKNOWN_RESIDUE: u32 = 11;
+    /// The model is not well formed; no text that is read gives one.
     pub const NOT_WELL_FORMED: u32 = 12;
+    /// A name or an insertion code could not be read again; the detail is the number of the first such
+    /// atom, from 1.
     pub const CANNOT_BE_WRITTEN: u32 = 13;
+    /// The output is too short; the detail says how many bytes are needed.
     pub const OUTPUT_TOO_SHORT: u32 = 14;
+    /// The result is not 28 bytes long. This crate's always is.
     pub const RESULT_LENGTH: u32 = 26;
 
     /// What the detail names, where it is a place in a list that counts from 1.
@@ -88,6 +107,19 @@ impl fmt::Display for Refusal {
             Self::RESULT_LENGTH => formatter.write_str("the result is not 28 bytes long"),
             number => write!(formatter, "refused by number {number}, detail {detail}"),
         }
+    }
+}
+
+/// With the sentence, since this is what `unwrap` and a `main` that fails print.
+impl fmt::Debug for Refusal {
+    fn fmt(&self, formatter: &mut fmt::Formatter<'_>) -> fmt::Result {
+        formatter
+            .debug_struct("Refusal")
+            .field("number", &self.number)
+            .field("line", &self.line)
+            .field("detail", &self.detail)
+            .field("sentence", &self.to_string())
+            .finish()
     }
 }
 
@@ -177,6 +209,19 @@ mod tests {
             };
             assert_eq!(refusal.to_string(), sentence);
         }
+    }
+
+    #[test]
+    fn a_failing_program_prints_the_sentence() {
+        let refusal = Refusal {
+            number: Refusal::BEYOND_REACH,
+            line: 12,
+            detail: 4,
+        };
+        assert_eq!(
+            format!("{refusal:?}"),
+            r#"Refusal { number: 8, line: 12, detail: 4, sentence: "line 12: the occupancy is beyond reach" }"#
+        );
     }
 
     #[test]

@@ -2,8 +2,10 @@
 use crate::call::RESULT_BYTES;
 use crate::refusal::Refusal;
 
+/// The counts speak of the rows of the text; [`Report::atoms`] is what they leave.
 #[derive(Debug, Clone, Copy, PartialEq, Eq)]
 pub struct Report {
+    /// How long the text written is.
     pub bytes_written: usize,
     /// The rows of all atom loops.
     pub rows: usize,

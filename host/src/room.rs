@@ -7,6 +7,8 @@ use crate::name::Name;
 use crate::records::Records;
 use crate::refusal::Refusal;
 use crate::report::{self, Report};
+use std::fmt;
+use std::ops::Range;
 
 /// After a text is taken in, a room holds its model; before, and after a refusal, none.
 pub struct Room {
@@ -88,15 +90,52 @@ impl Room {
 
     /// The atoms, by residue and name.
     pub fn atoms(&self) -> impl ExactSizeIterator<Item = Atom> {
+        self.atoms_at(0..self.atom_count())
+    }
+
+    /// The atoms of one residue of the model, by name. They are looked for by halves, since atoms
+    /// stand in the order of their residues.
+    pub fn atoms_of(&self, residue: &Residue) -> impl ExactSizeIterator<Item = Atom> {
+        let keys = &self.records.atom_keys[..self.atom_count()];
+        let first = keys.partition_point(|&key| Key::of_packed(key) < residue.key);
+        let past = keys.partition_point(|&key| Key::of_packed(key) <= residue.key);
+        self.atoms_at(first..past)
+    }
+
+    fn atom_count(&self) -> usize {
+        filled(&self.records.atom_names, |&name| name).len()
+    }
+
+    fn atoms_at(&self, places: Range<usize>) -> impl ExactSizeIterator<Item = Atom> {
         let records = &self.records;
-        let names = filled(&records.atom_names, |&name| name).iter().enumerate();
-        names.map(|(place, &name)| Atom {
+        places.map(|place| Atom {
             residue: Key::of_packed(records.atom_keys[place]),
-            name: Name::of_packed(name),
+            name: Name::of_packed(records.atom_names[place]),
             element: records.elements[place],
             position: records.positions[place],
             occupancy: records.occupancies[place],
         })
+    }
+}
+
+/// How many records are filled, of how many; the records themselves may be a million.
+impl fmt::Debug for Room {
+    fn fmt(&self, formatter: &mut fmt::Formatter<'_>) -> fmt::Result {
+        let Records {
+            chains,
+            residue_names,
+            atom_names,
+            ..
+        } = &self.records;
+        let mut room = formatter.debug_struct("Room");
+        for (kind, filled, all) in [
+            ("chains", self.chains().len(), chains.len()),
+            ("residues", self.residues().len(), residue_names.len()),
+            ("atoms", self.atoms().len(), atom_names.len()),
+        ] {
+            room.field(kind, &format_args!("{filled} of {all}"));
+        }
+        room.finish()
     }
 }
 

@@ -90,6 +90,21 @@ fn the_room_holds_the_model() {
     assert_eq!(oxygen.position, [0.25, 0.0, -3.0]);
 }
 
+/// The counts and the sizes, and none of the records.
+#[test]
+fn a_room_is_shown_in_short() {
+    let mut room = Room::new(5, 6, 7);
+    assert_eq!(
+        format!("{room:?}"),
+        "Room { chains: 0 of 5, residues: 0 of 6, atoms: 0 of 7 }"
+    );
+    room.intake_whole(TEXT).unwrap();
+    assert_eq!(
+        format!("{room:?}"),
+        "Room { chains: 1 of 5, residues: 2 of 6, atoms: 2 of 7 }"
+    );
+}
+
 #[test]
 fn a_refusal_leaves_the_output_and_empties_the_room() {
     let mut room = Room::new(5, 5, 5);
