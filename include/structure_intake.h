@@ -4,7 +4,8 @@
  * The caller owns every buffer. Each pointer leads to as many entries as the length beside it says, is aligned for them
  * and is not null, also where the length is 0; no two buffers overlap. The text is only read. Nothing else is read or
  * written, nothing is allocated, there is no global state, and nothing is kept after the call: calls with buffers of
- * their own may run at the same time. Both calls come back for all texts, lengths and contents of the buffers.
+ * their own may run at the same time. Both calls come back for all texts, lengths and contents of the buffers. Of the C
+ * library the archive needs memcpy and memset alone.
  *
  * No order of rows costs the square of the rows: besides a few walks over the text, a row moves at most some 2,000 records
  * and most often none, and each 2,048 rows that come from far move all records three times at most.
@@ -26,14 +27,16 @@ extern "C" {
  *   1   the text has more than 16,777,216 bytes                       0     0
  *   2   a byte is outside the domain: 9, 10, 32 to 126, and 13        line  the first such byte
  *       only directly before 10
- *   3   a line has more than 2,048 bytes                              line  0
+ *   3   a line has more than 2,048 bytes without its ending, which    line  0
+ *       is 10, or 13 and 10
  *   4   a loop has a 65th header                                      line  0
  *   5   a column is missing                                           line  1 atom, 2 residue, 3 chain, 4 sequence,
  *                                                                           5 x, 6 y, 7 z
  *   6   a row is short                                                line  0
  *   7   a coordinate is no number                                     line  1 x, 2 y, 3 z
  *   8   a number is beyond reach: a word, an exponent, more than      line  1 x, 2 y, 3 z, 4 occupancy
- *       15 digits, or a magnitude above 1,000,000
+ *       15 digits, leading zeros counted, or a magnitude above
+ *       1,000,000
  *   9   a name has more than 8 bytes                                  line  1 atom, 2 residue, 3 chain
  *  10   there is no room for what a row brings                        line  1 chain, 2 residue, 3 atom
  *  11   a residue is unknown and not marked HETATM                    0     the first such residue's place in the
@@ -77,8 +80,15 @@ enum structure_intake_result {
     STRUCTURE_INTAKE_RESULT_BYTES = 28
 };
 
+/* The number of the result whose first byte is at that place. */
+static inline uint32_t structure_intake_number(const uint8_t *result, size_t place)
+{
+    const uint8_t *byte = result + place;
+    return (uint32_t)byte[0] | (uint32_t)byte[1] << 8 | (uint32_t)byte[2] << 16 | (uint32_t)byte[3] << 24;
+}
+
 /* Takes in a text of at most 64 chains, 512 residues and 1,024 atoms; its records are its own, on the stack, of which it
- * takes 72 KB on x86-64.
+ * takes less than 70,000 bytes on x86-64.
  *
  * After 0 the first bytes of `out`, as many as the result says, are the text written. All other bytes of `out` stay as
  * they were; after a refusal all of them do. */
@@ -93,8 +103,8 @@ struct structure_intake_chain {
 
 /* The same with the caller's records: a slice of chain records, and for residues and atoms one slice to a field. There is
  * room for as many chains, residues and atoms as the shortest slice of each kind has entries, and for at most 4,096,
- * 65,536 and 1,048,576 of them. What the slices hold beforehand does not matter. It takes 43 KB of the stack on x86-64,
- * most of them for the names of the chains.
+ * 65,536 and 1,048,576 of them. What the slices hold beforehand does not matter. It takes less than 42,000 bytes of the
+ * stack on x86-64, most of them for the names of the chains.
  *
  * After 0 the first records of each kind are the model: chains in the order in which they are first met; residues by
  * chain, sequence and insertion code, none first; atoms by residue and name. Every record past the model is zero, in all
@@ -133,6 +143,48 @@ uint32_t structure_intake_lent(const uint8_t *text, size_t text_length,
                                uint8_t *elements, size_t elements_length,
                                double (*positions)[3], size_t positions_length,
                                double *occupancies, size_t occupancies_length);
+
+/* A name as it is packed, to compare with those of the records; 0, which is no name, where it has more than 8 bytes. */
+static inline uint64_t structure_intake_packed(const char *name)
+{
+    uint64_t packed = 0;
+    for (int place = 0; place < 8; place++) {
+        packed = packed << 8 | (uint8_t)*name;
+        name += *name != 0;
+    }
+    return *name == 0 ? packed : 0;
+}
+
+/* Writes a packed name as a string, and gives its length. */
+static inline size_t structure_intake_unpacked(uint64_t packed, char name[9])
+{
+    size_t length = 0;
+    for (; packed != 0; packed <<= 8)
+        name[length++] = (char)(packed >> 56);
+    name[length] = 0;
+    return length;
+}
+
+/* The key of a residue, and what a key is made of. */
+static inline uint64_t structure_intake_key(uint64_t chain_place, int32_t sequence, uint8_t insertion_code)
+{
+    return chain_place << 40 | (uint64_t)(sequence + ((int64_t)1 << 31)) << 8 | insertion_code;
+}
+
+static inline uint64_t structure_intake_key_chain_place(uint64_t key)
+{
+    return key >> 40;
+}
+
+static inline int32_t structure_intake_key_sequence(uint64_t key)
+{
+    return (int32_t)((int64_t)(uint32_t)(key >> 8) - ((int64_t)1 << 31));
+}
+
+static inline uint8_t structure_intake_key_insertion_code(uint64_t key)
+{
+    return (uint8_t)key;
+}
 
 #ifdef __cplusplus
 }

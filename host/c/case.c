@@ -1,6 +1,6 @@
 /* case TEXT WRITTEN: takes in the file TEXT, document 01's whole case, by both calls of the header, and holds the answer,
  * the result, every byte of the output and every record to what they must be; WRITTEN is the text that must be written.
- * Prints one line and ends with status 0, or says what is wrong and ends with 1. */
+ * Tries the header's small functions too. Prints one line and ends with status 0, or says what is wrong and ends with 1. */
 #include "structure_intake.h"
 
 #include <stdio.h>
@@ -56,28 +56,6 @@ static struct buffer read_file(const char *name)
     return file;
 }
 
-static uint32_t number(const uint8_t *result, size_t place)
-{
-    const uint8_t *byte = result + place;
-    return (uint32_t)byte[0] | (uint32_t)byte[1] << 8 | (uint32_t)byte[2] << 16 | (uint32_t)byte[3] << 24;
-}
-
-/* The first byte is highest; zeros follow the last. */
-static uint64_t packed(const char *name)
-{
-    uint64_t bytes = 0;
-    for (int place = 0; place < 8; place++) {
-        bytes = bytes << 8 | (uint8_t)*name;
-        name += *name != 0;
-    }
-    return bytes;
-}
-
-static uint64_t key(uint64_t chain, int64_t sequence, uint8_t code)
-{
-    return chain << 40 | (uint64_t)(sequence + (INT64_C(1) << 31)) << 8 | code;
-}
-
 /* Both calls find everything dirty. */
 static void intake(struct call *call, const struct buffer *text, size_t out_length, size_t result_length)
 {
@@ -112,7 +90,7 @@ static void check_taken(const struct call *call, const struct buffer *written)
     const uint32_t expected[] = {0, 0, (uint32_t)written->length, 3, 0, 1, 1};
     check(call->answer == STRUCTURE_INTAKE_TAKEN, "the case is not taken in");
     for (size_t place = 0; place < 7; place++)
-        check(number(call->result, 4 * place) == expected[place], "a number of the result is wrong");
+        check(structure_intake_number(call->result, 4 * place) == expected[place], "a number of the result is wrong");
     check(memcmp(call->out, written->bytes, written->length) == 0, "another text is written");
     check(all_are(call->out + written->length, sizeof call->out - written->length, PATTERN), "bytes past the text have changed");
 }
@@ -120,8 +98,8 @@ static void check_taken(const struct call *call, const struct buffer *written)
 static void check_refused(const struct call *call, uint32_t answer, uint32_t line, uint32_t detail)
 {
     check(call->answer == answer, "another refusal is answered");
-    check(number(call->result, STRUCTURE_INTAKE_LINE) == line, "the refusal has another line");
-    check(number(call->result, STRUCTURE_INTAKE_DETAIL) == detail, "the refusal has another detail");
+    check(structure_intake_number(call->result, STRUCTURE_INTAKE_LINE) == line, "the refusal has another line");
+    check(structure_intake_number(call->result, STRUCTURE_INTAKE_DETAIL) == detail, "the refusal has another detail");
     check(all_are(call->result + STRUCTURE_INTAKE_BYTES_WRITTEN, 20, 0), "a refusal has counts");
     check(all_are(call->out, sizeof call->out, PATTERN), "a refusal has changed the output");
 }
@@ -154,15 +132,16 @@ static void check_untouched(const struct call *call)
 
 static void check_case(const struct buffer *text, const struct buffer *written)
 {
+    const uint64_t met = structure_intake_key(0, 7, 0), qqq = structure_intake_key(0, 9, 0);
     const struct records model = {
-        .chains = {{packed("A")}},
-        .residue_keys = {key(0, 7, 0), key(0, 9, 0)},
-        .residue_names = {packed("MET"), packed("QQQ")},
+        .chains = {{structure_intake_packed("A")}},
+        .residue_keys = {met, qqq},
+        .residue_names = {structure_intake_packed("MET"), structure_intake_packed("QQQ")},
         .residue_codes = {13, 0},
         .residue_categories = {1, 3},
         .residue_positions = {2, 0},
-        .atom_keys = {key(0, 7, 0), key(0, 9, 0)},
-        .atom_names = {packed("CA"), packed("O'")},
+        .atom_keys = {met, qqq},
+        .atom_names = {structure_intake_packed("CA"), structure_intake_packed("O'")},
         .elements = {6, 8},
         .positions = {{1.5, -0.0004, 2}, {0.25, 0, -3}},
         .occupancies = {0.6, 1},
@@ -195,6 +174,32 @@ static void check_other_results(const struct buffer *text)
     check_untouched(&call);
 }
 
+static void check_name(const char *name, uint64_t packed)
+{
+    char unpacked[9];
+    check(structure_intake_packed(name) == packed, "a name is packed otherwise");
+    check(structure_intake_unpacked(packed, unpacked) == strlen(name), "a name has another length");
+    check(strcmp(unpacked, name) == 0, "another name is unpacked");
+}
+
+static void check_key(uint64_t chain_place, int32_t sequence, uint8_t insertion_code, uint64_t key)
+{
+    check(structure_intake_key(chain_place, sequence, insertion_code) == key, "a key is made otherwise");
+    check(structure_intake_key_chain_place(key) == chain_place, "a key has another chain");
+    check(structure_intake_key_sequence(key) == sequence, "a key has another sequence number");
+    check(structure_intake_key_insertion_code(key) == insertion_code, "a key has another insertion code");
+}
+
+static void check_helpers(void)
+{
+    check_name("CA", 0x4341000000000000);
+    check_name("ABCDEFGH", 0x4142434445464748);
+    check(structure_intake_packed("ABCDEFGHI") == 0, "a name that is too long is packed");
+    check_key(0, INT32_MIN, 0, 0);
+    check_key(1, -1, 'A', 0x0000017fffffff41);
+    check_key(4095, INT32_MAX, '~', 0x000fffffffffff7e);
+}
+
 int main(int count, char **arguments)
 {
     static const struct buffer no_residues = {"loop_\n_atom_site.label_atom_id\nCA\n", 34};
@@ -203,6 +208,7 @@ int main(int count, char **arguments)
     const struct buffer written = read_file(arguments[2]);
     const uint32_t needed = (uint32_t)written.length;
 
+    check_helpers();
     check_case(&text, &written);
     check_refusal(&no_residues, LONGEST, STRUCTURE_INTAKE_COLUMN_MISSING, 3, 2);
     check_refusal(&text, written.length - 1, STRUCTURE_INTAKE_OUTPUT_TOO_SHORT, 0, needed);
