@@ -164,35 +164,31 @@ fn a_line_comes_as_soon_as_its_file_is_done() {
     assert!(audit.wait().expect("the audit ends").success());
 }
 
+/// The first file takes longest, so that beside others it is done last.
 #[test]
 fn the_order_does_not_hang_on_the_jobs() {
     let folder = outcomes("jobs");
-    let table = |jobs| {
-        printed(&audit(
-            &folder,
-            &["--jobs", jobs, "pdb.cif", ".", "none.cif"],
-        ))
+    folder.write("slow.txt", vec![b'\n'; LONGEST_TEXT]);
+    let audit = |options: &[&str]| {
+        let files = ["slow.txt", ".", "none.cif"];
+        printed(&audit(&folder, &[options, &files].concat()))
     };
-    let one = table("1");
-    let names: Vec<&str> = one
-        .lines()
-        .filter_map(|line| line[3..].split(' ').next())
-        .collect();
-    assert_eq!(names.len(), 16);
-    assert_eq!(
-        (names[1], names[2], names[14]),
-        ("pdb.cif", "./a\"b\\c.cif", "none.cif")
-    );
-    assert_eq!(table("4"), one);
+    let table = audit(&["--jobs", "1"]);
+    let lines: Vec<&str> = table.lines().collect();
+    assert_eq!(lines.len(), 1 + 14 + 1);
+    let begins = ["!  slow.txt ", "!  ./a\"b\\c.cif ", "   none.cif "];
+    for (line, begin) in [lines[1], lines[2], lines[14]].iter().zip(begins) {
+        assert!(line.starts_with(begin), "{line}");
+    }
+    assert_eq!(audit(&["--jobs", "4"]), table);
 
-    let lines = |jobs| {
-        let output = audit(&folder, &["--json", "--jobs", jobs, "."]);
-        let mut lines: Vec<String> = printed(&output).lines().map(String::from).collect();
-        lines.sort_unstable();
+    let sorted = |jobs| {
+        let printed = audit(&["--json", "--jobs", jobs]);
+        let lines: BTreeSet<String> = printed.lines().map(String::from).collect();
         lines
     };
-    assert_eq!(lines("1").len(), 12);
-    assert_eq!(lines("4"), lines("1"));
+    assert_eq!(sorted("1").len(), 14);
+    assert_eq!(sorted("4"), sorted("1"));
 }
 
 #[test]
