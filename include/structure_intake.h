@@ -2,8 +2,9 @@
  * are lent, its chains, residues and atoms out, or a refusal by number, line and detail. Link libstructure_intake.a.
  *
  * The caller owns every buffer. Each pointer leads to as many entries as the length beside it says, is aligned for them
- * and is not null, also where the length is 0; no two buffers overlap. The text is only read. Nothing else is read or
- * written, nothing is allocated, there is no global state, and nothing is kept after the call: calls with buffers of
+ * and is not null, also where the length is 0; no two buffers overlap, and nobody else changes one during the call. The
+ * processor is in its default mode for doubles: to nearest, subnormals kept. The text is only read. Nothing else is read
+ * or written, nothing is allocated, there is no global state, and nothing is kept after the call: calls with buffers of
  * their own may run at the same time. Both calls come back for all texts, lengths and contents of the buffers. Of the C
  * library the archive needs memcpy and memset alone.
  *
