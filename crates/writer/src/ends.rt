@@ -50,7 +50,8 @@ fn past_polymer_rows(
     positions: &[u8],
     n: usize,
 ) -> usize
-    ensures { λ r. ⌜ (residuesAscend (now (keys .entry)) n ≡ true → Ends at (polymersOf (listFrom (residueFrom (now (keys .entry)) (now (names .entry)) (now (codes .entry)) (now (categories .entry)) (now (positions .entry))) 0 n)) r) ⌝ }
+    ensures { λ r. ⌜ (residuesAscend (now (keys .entry)) n ≡ true →
+        Ends at (polymersOf (listFrom (residueFrom (now (keys .entry)) (now (names .entry)) (now (codes .entry)) (now (categories .entry)) (now (positions .entry))) 0 n)) r) ⌝ }
 {
     let mut place = at;
     let mut chain = 0;
