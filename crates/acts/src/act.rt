@@ -2,7 +2,7 @@
 use refusals::Reason;
 use rows::Site;
 
-#[derive(Drop)]
+#[derive(Clone, Copy)]
 pub enum Act {
     Pass,
     Skip,

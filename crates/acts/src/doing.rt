@@ -11,14 +11,14 @@ use model::Room;
 use refusals::{Reason, Refusal};
 use rows::Site;
 
-#[derive(Drop)]
+#[derive(Clone, Copy)]
 pub enum Halt {
     Going,
     Refused(Refusal),
 }
 
 // Where a reading stands: what the slices hold, and whether a refusal has ended it.
-#[derive(Drop)]
+#[derive(Clone, Copy)]
 pub struct Standing {
     pub held: Held,
     pub halt: Halt,

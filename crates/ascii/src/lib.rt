@@ -1,4 +1,6 @@
 // Bytes read and written as ASCII: the lowest layer, on which every other stands.
+#![tactic(auto)]
+
 mod bytes;
 mod digits;
 mod letters;

@@ -2,7 +2,7 @@
 ghost use Rattle.std.specs.Prelude.{◌≡◌, ◌+◌, ◌≤◌, leb, length};
 ghost use Rattle.ascii.specs.Output.{Stored, placed_of, buffer_after};
 
-#[derive(Drop)]
+#[derive(Clone, Copy)]
 pub enum Placed {
     // The text was put there; this is the place after it.
     Next(usize),

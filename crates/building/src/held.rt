@@ -5,7 +5,7 @@ ghost use Rattle.building.specs.Gaps.{none_held};
 use crate::sites::Counts;
 use crate::stores::{Store, no_store};
 
-#[derive(Drop)]
+#[derive(Clone, Copy)]
 pub struct Held {
     pub counts: Counts,
     pub residues: Store,

@@ -1,4 +1,6 @@
 // The model built in lent records, one slice to a field: step 8 of a row. A site comes with its chain's place; who holds the chain list finds it.
+#![tactic(auto)]
+
 mod atoms;
 mod bytes;
 mod chains;

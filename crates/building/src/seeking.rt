@@ -9,7 +9,7 @@ use crate::held::rest;
 use crate::stores::{Store, entries_of};
 use gapped_slices::{spot_in, spot_in_key, stand};
 
-#[derive(Drop)]
+#[derive(Clone, Copy)]
 pub struct Sought {
     pub new: bool,
     // Where it stands in the slices; where it is new, its index among the entries of main.

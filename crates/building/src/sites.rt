@@ -20,7 +20,7 @@ use model::{Lack, Room, residue_key};
 use refusals::RecordKind;
 use rows::{Point3, Site};
 
-#[derive(Drop)]
+#[derive(Clone, Copy)]
 pub struct Counts {
     pub chains: usize,
     pub residues: usize,
@@ -42,7 +42,7 @@ pub fn sizes_of(counts: Counts) -> Room
     }
 }
 
-#[derive(Drop)]
+#[derive(Clone, Copy)]
 pub enum Put {
     // What the site has no room for. Nothing has changed.
     NoRoom(RecordKind),
@@ -50,7 +50,7 @@ pub enum Put {
 }
 
 // Where a site goes.
-#[derive(Drop)]
+#[derive(Clone, Copy)]
 pub struct Places {
     pub chain: usize,
     pub key: u64,

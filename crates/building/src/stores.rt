@@ -15,7 +15,7 @@ const EARNED: usize = 16;
 
 const GREATEST: usize = 18446744073709551615;
 
-#[derive(Drop)]
+#[derive(Clone, Copy)]
 pub struct Store {
     pub main: Area,
     pub pocket: Area,
@@ -24,7 +24,7 @@ pub struct Store {
 }
 
 // Where a new entry goes.
-#[derive(Drop)]
+#[derive(Clone, Copy)]
 pub enum Way {
     Main,
     Pocket,

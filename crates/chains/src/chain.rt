@@ -1,6 +1,6 @@
 // One chain of the list: its name, packed.
 #[repr(C)]
-#[derive(Drop)]
+#[derive(Clone, Copy)]
 pub struct Chain {
     pub name: u64,
 }

@@ -1,4 +1,6 @@
 // The chain list as it is lent: a slice of chain records, and the names of its chains in an array of numbers, over which all other layers work.
+#![tactic(auto)]
+
 mod chain;
 mod names;
 mod places;

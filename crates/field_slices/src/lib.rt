@@ -1,4 +1,6 @@
 // Lent slices, one to a field: an entry looked for among those that ascend, stored, taken out, and what is past the entries cleared.
+#![tactic(auto)]
+
 mod clearing;
 mod entries;
 mod places;

@@ -2,7 +2,7 @@
 ghost use Rattle.std.specs.Prelude.{◌≡◌, ◌≤◌, min, ltb, length, take};
 ghost use Rattle.field_slices.specs.Places.{Found};
 
-#[derive(Drop)]
+#[derive(Clone, Copy)]
 pub enum Place {
     // It is there, at this index.
     At(usize),

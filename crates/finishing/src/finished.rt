@@ -10,7 +10,7 @@ use crate::positions::position_residues;
 use building::{Counts, sizes_of};
 use model::{Room, no_records};
 
-#[derive(Drop)]
+#[derive(Clone, Copy)]
 pub enum Finish {
     // The first unknown residue's place, from 1 over the model. No record stays.
     Unknown(usize),

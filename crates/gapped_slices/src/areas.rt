@@ -13,7 +13,7 @@ use field_slices::smaller;
 
 // A part of some slices, from an index up to another, with a gap of its own: so many entries before it, from the part's start, and so
 // many behind it, up to the part's end.
-#[derive(Drop)]
+#[derive(Clone, Copy)]
 pub struct Area {
     pub from: usize,
     pub to: usize,

@@ -1,5 +1,7 @@
 // Lent slices with a gap, before which the next entry is put in: where an entry belongs, and the gap moved there, in a whole slice or
 // in an area of it.
+#![tactic(auto)]
+
 mod areas;
 mod carrying;
 mod gaps;

@@ -7,7 +7,7 @@ ghost use Rattle.gapped_slices.specs.Spots.{Spotted};
 
 use field_slices::smaller;
 
-#[derive(Drop)]
+#[derive(Clone, Copy)]
 pub struct Spot {
     // So many entries come before the gap.
     pub front: usize,

@@ -1,4 +1,6 @@
 // The intake as a program: a text from standard input; what it says to standard output, written anew, or a line that says why not.
+#![tactic(auto)]
+
 use libc::STDIN_FILENO;
 use results::Answer;
 use service::serve_own;

@@ -4,7 +4,7 @@ ghost use Rattle.line_states.specs.Heads.{no_heads, start_heads, in_state, with_
 
 use rows::Columns;
 
-#[derive(Drop)]
+#[derive(Clone, Copy)]
 pub enum State {
     Base,
     Header,
@@ -12,7 +12,7 @@ pub enum State {
     OtherLoop,
 }
 
-#[derive(Drop)]
+#[derive(Clone, Copy)]
 pub struct Heads {
     pub state: State,
     pub columns: Columns,

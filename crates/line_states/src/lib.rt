@@ -1,4 +1,6 @@
 // What each line does to the state that a reader is in: loops opened, headers recorded, rows told from other lines.
+#![tactic(auto)]
+
 mod heads;
 mod reading;
 

@@ -12,14 +12,14 @@ const HEADERS: usize = 64;
 // More bytes than any word that is asked for has.
 const CELL: usize = 32;
 
-#[derive(Drop)]
+#[derive(Clone, Copy)]
 pub enum Does {
     Nothing,
     Row,
     TooManyHeaders,
 }
 
-#[derive(Drop)]
+#[derive(Clone, Copy)]
 pub struct Moved {
     pub heads: Heads,
     pub does: Does,

@@ -3,7 +3,7 @@ ghost use Rattle.std.specs.Prelude.{◌≡◌, ◌+◌, ◌<◌, ◌≤◌, cond
 ghost use Rattle.ascii.specs.Lists.{every};
 ghost use Rattle.lines.specs.Domain.{stands_anywhere, line_behind, outside_of};
 
-#[derive(Drop)]
+#[derive(Clone, Copy)]
 pub enum Outside {
     None,
     // The line, counted from 1, and the byte.

@@ -1,4 +1,6 @@
 // A text before its lines are read: whether it is in the domain, and where each of its lines ends.
+#![tactic(auto)]
+
 mod domain;
 mod line_reader;
 mod lines;

@@ -5,7 +5,7 @@ ghost use Rattle.lines.specs.Lines.{LineOrEnd};
 
 use crate::lines::{Line, line_at};
 
-#[derive(Drop)]
+#[derive(Clone, Copy)]
 pub struct LineReader<'a> {
     pub text: &'a [u8],
     pub place: usize,

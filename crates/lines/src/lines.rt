@@ -4,7 +4,7 @@ ghost use Rattle.ascii.specs.Lists.{every};
 ghost use Rattle.lines.specs.Lines.{is_no_feed, feed_place, NoFeedBefore, line_length, LineOrEnd};
 
 // A line is the bytes before `end`; the next line begins at `next`.
-#[derive(Drop)]
+#[derive(Clone, Copy)]
 pub struct Line {
     pub end: usize,
     pub next: usize,

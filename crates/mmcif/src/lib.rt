@@ -1,4 +1,6 @@
 // The mmCIF format: what each line of a text asks for, by the states and the row rules, and the rows that are kept, run by run.
+#![tactic(auto)]
+
 mod plans;
 mod reading_lines;
 mod stages;

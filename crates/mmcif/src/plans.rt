@@ -10,7 +10,7 @@ use refusals::Reason;
 use rows::{Columns, Row, Settings};
 use tokens::LONGEST;
 
-#[derive(Drop)]
+#[derive(Clone, Copy)]
 pub struct Plan {
     pub heads: Heads,
     pub act: Act,

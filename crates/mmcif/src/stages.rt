@@ -13,14 +13,14 @@ use model::Room;
 use rows::{Settings, Site};
 
 // The row that is kept next, with its line.
-#[derive(Drop)]
+#[derive(Clone, Copy)]
 pub enum Waiting {
     Nothing,
     Row(usize, Site),
 }
 
 // The next line's place and number, the state of the headers, what is held, and the row that waits.
-#[derive(Drop)]
+#[derive(Clone, Copy)]
 pub struct Stage {
     pub at: usize,
     pub number: usize,

@@ -4,7 +4,7 @@ ghost use Rattle.model.specs.Classes.{other_category, class_by, class_of};
 
 use names::{ResidueCategory, Resolved};
 
-#[derive(Drop)]
+#[derive(Clone, Copy)]
 pub struct Class {
     pub name: u64,
     // 0 where it is no standard residue.

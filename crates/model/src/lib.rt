@@ -1,4 +1,6 @@
 // The model that rows make. Its definitions and theorems are in specs/ and proofs/; here is what is said of one residue by value.
+#![tactic(auto)]
+
 mod classes;
 mod keys;
 mod neighbours;

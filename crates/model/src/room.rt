@@ -5,7 +5,7 @@ ghost use Rattle.model.specs.Lent.{lent_by, room_by, room_of, no_records};
 use field_slices::smaller;
 use refusals::RecordKind;
 
-#[derive(Drop)]
+#[derive(Clone, Copy)]
 pub struct Room {
     pub chains: usize,
     pub residues: usize,
@@ -13,7 +13,7 @@ pub struct Room {
 }
 
 // What a row lacks room for.
-#[derive(Drop)]
+#[derive(Clone, Copy)]
 pub enum Lack {
     Nothing,
     Of(RecordKind),

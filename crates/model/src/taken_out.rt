@@ -8,7 +8,7 @@ use ascii::byte_at;
 use field_slices::{f64_at, point_at, u64_at};
 use rows::Point3;
 
-#[derive(Drop)]
+#[derive(Clone, Copy)]
 pub struct Residue {
     // The place of its chain, from 0.
     pub chain: u64,
@@ -22,7 +22,7 @@ pub struct Residue {
     pub position: u8,
 }
 
-#[derive(Drop)]
+#[derive(Clone, Copy)]
 pub struct Atom {
     // Its residue's key.
     pub key: u64,

@@ -1,4 +1,6 @@
 // Names as numbers, and what a name means: the residues that it stands for, and the elements.
+#![tactic(auto)]
+
 mod elements;
 mod packing;
 mod residues;

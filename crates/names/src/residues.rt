@@ -7,7 +7,7 @@ ghost use Rattle.names.specs.Categories.{category_code, category_name, category_
 ghost use Rattle.names.specs.Positions.{position_code, position_name, position_of};
 
 // The twenty amino acids, the bases of RNA and of DNA, and water.
-#[derive(Drop)]
+#[derive(Clone, Copy)]
 pub enum StandardResidue {
     ALA,
     ARG,
@@ -43,26 +43,26 @@ pub enum StandardResidue {
 }
 
 // What a number says of a residue: which standard one it is, or that it is none.
-#[derive(Drop)]
+#[derive(Clone, Copy)]
 pub enum FoundResidue {
     Residue(StandardResidue),
     None,
 }
 
-#[derive(Drop)]
+#[derive(Clone, Copy)]
 pub enum ResidueCategory {
     Standard,
     Hetero,
     Ion,
 }
 
-#[derive(Drop)]
+#[derive(Clone, Copy)]
 pub enum FoundCategory {
     Category(ResidueCategory),
     None,
 }
 
-#[derive(Drop)]
+#[derive(Clone, Copy)]
 pub enum ResiduePosition {
     None,
     Internal,
@@ -72,14 +72,14 @@ pub enum ResiduePosition {
     ThreePrime,
 }
 
-#[derive(Drop)]
+#[derive(Clone, Copy)]
 pub enum FoundPosition {
     Position(ResiduePosition),
     None,
 }
 
 // What a residue is a part of.
-#[derive(Drop)]
+#[derive(Clone, Copy)]
 pub enum Polymer {
     Protein,
     Nucleic,

@@ -5,7 +5,7 @@ ghost use Rattle.names.specs.Rows.{in_order, names};
 
 use crate::rows::name_at;
 
-#[derive(Drop)]
+#[derive(Clone, Copy)]
 pub enum Place {
     At(usize),
     Nowhere,

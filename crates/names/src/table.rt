@@ -6,7 +6,7 @@ use crate::residues::{FoundResidue, StandardResidue};
 use crate::rows::{FOURTH, row_at};
 use crate::search::{Place, place_in_order};
 
-#[derive(Drop)]
+#[derive(Clone, Copy)]
 pub enum Resolved {
     // The canonical name and its standard residue.
     Standard { name: u64, residue: StandardResidue },

@@ -1,4 +1,6 @@
 // Numbers: decimal text to the nearest double, a double to a fixed number of places, and a whole number to its digits.
+#![tactic(auto)]
+
 mod lengths;
 mod powers;
 mod printing;

@@ -9,7 +9,7 @@ use crate::rounding::{PLACES, UNITS_IN_ONE, is_negative, is_printable, units};
 use ascii::Placed;
 
 // What became of a double's text.
-#[derive(Drop)]
+#[derive(Clone, Copy)]
 pub enum Printed {
     // It isn't finite or is beyond 1,000,000 in magnitude: it has no text, and the buffer is as it was.
     BeyondReach,

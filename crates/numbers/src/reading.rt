@@ -9,7 +9,7 @@ ghost use Rattle.numbers.specs.Reading.{value_of, read_as, number_of};
 use crate::powers::power_of_ten;
 use crate::walking::walk_digits;
 
-#[derive(Drop)]
+#[derive(Clone, Copy)]
 pub enum Number {
     OutsideGrammar,
     BeyondReach,

@@ -3,7 +3,7 @@ ghost use Rattle.std.specs.Prelude.{◌≡◌, ◌+◌, ◌≤◌, ◌<◌, ◌^
 ghost use Rattle.ascii.specs.Digits.{digit_run, number_from};
 ghost use Rattle.numbers.specs.Grammar.{digits};
 
-#[derive(Drop)]
+#[derive(Clone, Copy)]
 pub(crate) struct Walked {
     pub number: u64,
     pub end: usize,

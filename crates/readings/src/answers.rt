@@ -2,7 +2,7 @@
 use building::Counts;
 use refusals::Refusal;
 
-#[derive(Drop)]
+#[derive(Clone, Copy)]
 pub enum Answer {
     Read(Counts),
     Refused(Refusal),

@@ -3,7 +3,7 @@ ghost use Rattle.std.specs.Prelude.{◌≡◌};
 ghost use Rattle.refusals.specs.Details.{column_number, column_at, axis_number, quantity_number, label_number, kind_number};
 
 // The columns that a row must have.
-#[derive(Drop)]
+#[derive(Clone, Copy)]
 pub enum Column {
     Atom,
     Residue,
@@ -14,7 +14,7 @@ pub enum Column {
     Z,
 }
 
-#[derive(Drop)]
+#[derive(Clone, Copy)]
 pub enum Axis {
     X,
     Y,
@@ -22,14 +22,14 @@ pub enum Axis {
 }
 
 // The numbers of a row.
-#[derive(Drop)]
+#[derive(Clone, Copy)]
 pub enum Quantity {
     Coordinate(Axis),
     Occupancy,
 }
 
 // The names of a row.
-#[derive(Drop)]
+#[derive(Clone, Copy)]
 pub enum Label {
     Atom,
     Residue,
@@ -37,7 +37,7 @@ pub enum Label {
 }
 
 // What a row may need room for.
-#[derive(Drop)]
+#[derive(Clone, Copy)]
 pub enum RecordKind {
     Chain,
     Residue,

@@ -1,4 +1,6 @@
 // Why a text is refused, or a model is not written: every reason once, with the documents' number and detail of each.
+#![tactic(auto)]
+
 mod details;
 mod reasons;
 

@@ -4,7 +4,7 @@ ghost use Rattle.refusals.specs.Reasons.{number_of, detail_of};
 
 use crate::details::{Axis, Column, Label, Quantity, RecordKind};
 
-#[derive(Drop)]
+#[derive(Clone, Copy)]
 pub enum Reason {
     TextTooLong,
     OutsideDomain { byte: u8 },
@@ -23,7 +23,7 @@ pub enum Reason {
 }
 
 // The line is 0 where a reason is no line's.
-#[derive(Drop)]
+#[derive(Clone, Copy)]
 pub struct Refusal {
     pub line: usize,
     pub reason: Reason,

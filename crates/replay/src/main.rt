@@ -1,5 +1,7 @@
 // Reads stored questions from standard input and writes our answer to each, a line to a line. The file stdout has the answers of the
 // published Rust, which what is written is held to.
+#![tactic(auto)]
+
 use libc::STDIN_FILENO;
 
 mod doubles;

@@ -2,7 +2,7 @@
 use building::Counts;
 use refusals::Refusal;
 
-#[derive(Drop)]
+#[derive(Clone, Copy)]
 pub enum Answer {
     // How many bytes were written, and the counts of the reading.
     Served { written: usize, counts: Counts },

@@ -1,4 +1,6 @@
 // What the service answers, and what the host call tells of it in a lent result.
+#![tactic(auto)]
+
 mod answers;
 mod results;
 

@@ -1,4 +1,6 @@
 // The texts of rows, put one field after the other into a lent buffer.
+#![tactic(auto)]
+
 mod emitting;
 mod fields;
 mod lengths;

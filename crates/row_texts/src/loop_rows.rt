@@ -13,7 +13,7 @@ use crate::fields::{
 use rows::Point3;
 
 // What a row of the atom loop says.
-#[derive(Drop)]
+#[derive(Clone, Copy)]
 pub struct AtomRow {
     pub polymer: bool,
     pub id: u64,
@@ -31,7 +31,7 @@ pub struct AtomRow {
     pub sequence: u32,
 }
 
-#[derive(Drop)]
+#[derive(Clone, Copy)]
 pub struct PolymerRow {
     pub entity: u64,
     pub number: u64,

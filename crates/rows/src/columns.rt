@@ -4,7 +4,7 @@ ghost use Rattle.rows.specs.Columns.{no_columns, with_column, column_of, is_abse
 
 const ABSENT: u8 = 64;
 
-#[derive(Drop)]
+#[derive(Clone, Copy)]
 pub struct Columns {
     pub places: [u8; 15],
 }

@@ -16,7 +16,7 @@ use tokens::{LONGEST, Part};
 const SHORT: usize = 128;
 
 // Whether the row has all the columns that it must have, and reaches them.
-#[derive(Drop)]
+#[derive(Clone, Copy)]
 pub enum Reach {
     Whole,
     // The first missing one.
@@ -25,20 +25,20 @@ pub enum Reach {
 }
 
 // A name: its true length, and its first eight bytes as a number.
-#[derive(Drop)]
+#[derive(Clone, Copy)]
 pub struct Name {
     pub length: usize,
     pub packed: u64,
 }
 
 // A number that may not be given: `.` or `?`, or no column.
-#[derive(Drop)]
+#[derive(Clone, Copy)]
 pub enum Measure {
     Missing,
     Given(Number),
 }
 
-#[derive(Drop)]
+#[derive(Clone, Copy)]
 pub struct Fields {
     pub reach: Reach,
     pub hetatm: bool,
@@ -180,7 +180,7 @@ fn element_at(cell: &[u8], places: &[usize], n: usize, column: u8) -> u8
 }
 
 // What the atom is called, and its numbers: the fields are taken out in parts.
-#[derive(Drop)]
+#[derive(Clone, Copy)]
 struct Labels {
     atom: Name,
     residue: Name,
@@ -189,7 +189,7 @@ struct Labels {
     insertion_code: u8,
 }
 
-#[derive(Drop)]
+#[derive(Clone, Copy)]
 struct Numbers {
     x: Measure,
     y: Measure,

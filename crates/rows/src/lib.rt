@@ -1,4 +1,6 @@
 // One row of an atom loop: its columns, its fields, and the rules that make a site of them.
+#![tactic(auto)]
+
 mod columns;
 mod fields;
 mod reach;

@@ -7,7 +7,7 @@ use crate::settings::{Settings, Unreadable};
 use numbers::Number;
 use refusals::{Axis, Label, Quantity, Reason};
 
-#[derive(Drop)]
+#[derive(Clone, Copy)]
 pub struct Point3 {
     pub x: f64,
     pub y: f64,
@@ -15,7 +15,7 @@ pub struct Point3 {
 }
 
 // What a row says of one atom.
-#[derive(Drop)]
+#[derive(Clone, Copy)]
 pub struct Site {
     pub chain: u64,
     pub sequence: u32,
@@ -29,7 +29,7 @@ pub struct Site {
     pub assumed: bool,
 }
 
-#[derive(Drop)]
+#[derive(Clone, Copy)]
 pub enum Row {
     Refused(Reason),
     Skipped,
@@ -37,7 +37,7 @@ pub enum Row {
 }
 
 // One of a position's three numbers, or why the row is refused for it.
-#[derive(Drop)]
+#[derive(Clone, Copy)]
 pub enum Coordinate {
     Refused(Reason),
     Value(f64),

@@ -3,12 +3,12 @@ ghost use Rattle.std.specs.Prelude.{◌≡◌};
 ghost use Rattle.rows.specs.Settings.{assuming};
 
 // What becomes of an occupancy that is outside the number grammar.
-#[derive(Drop)]
+#[derive(Clone, Copy)]
 pub enum Unreadable {
     Assumed,
 }
 
-#[derive(Drop)]
+#[derive(Clone, Copy)]
 pub struct Settings {
     pub occupancy: Unreadable,
 }

@@ -7,7 +7,7 @@ use readings::Answer;
 use refusals::Refusal;
 
 // What is said of the records besides the answer.
-#[derive(Drop)]
+#[derive(Clone, Copy)]
 pub(crate) enum Word {
     Nothing,
     // The names of the first chain, residue and atom, if there is an atom.

@@ -1,4 +1,6 @@
 // Document 01's samples. Those to run are run here, and what is written is held to the file stdout; those to prove stand in proofs/Proved.
+#![tactic(auto)]
+
 mod answers;
 mod columns_missing;
 mod coordinates_read;

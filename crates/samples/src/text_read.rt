@@ -3,7 +3,7 @@ use crate::zeros::are_zero;
 use building::Counts;
 use readings::Answer;
 
-#[derive(Drop)]
+#[derive(Clone, Copy)]
 pub(crate) struct Reading {
     pub answer: Answer,
     pub chain: u64,

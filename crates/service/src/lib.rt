@@ -1,4 +1,6 @@
 // Text in, text out, over lent records: what the program and the host call share.
+#![tactic(auto)]
+
 mod own;
 mod serving;
 

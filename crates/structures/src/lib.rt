@@ -1,4 +1,6 @@
 // The reader and the writer over lent records, the chain list among them as a slice of chain records.
+#![tactic(auto)]
+
 mod reading;
 mod runs;
 mod writing;

@@ -1,4 +1,6 @@
 // What is asked of a token: whether it is a certain word, and which sequence number it writes.
+#![tactic(auto)]
+
 mod sequence;
 mod words;
 

@@ -1,4 +1,6 @@
 // The tokens of a line, the items that they name, and how a name is quoted.
+#![tactic(auto)]
+
 mod items;
 mod kinds;
 mod longest;

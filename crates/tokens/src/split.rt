@@ -11,7 +11,7 @@ use crate::trim::content_of;
 
 // Where the walk stands: the next byte's place, the open quote or 0, where the token so far begins in the cell, how many bytes the cell
 // has, and how many tokens are whole.
-#[derive(Drop)]
+#[derive(Clone, Copy)]
 pub struct Split {
     pub at: usize,
     pub quote: u8,
@@ -129,7 +129,7 @@ pub fn split_mmcif_line(line: &[u8], cell: &mut [u8], places: &mut [usize]) -> u
     split_text(content_of(line), cell, places)
 }
 
-#[derive(Drop)]
+#[derive(Clone, Copy)]
 pub struct Part {
     pub start: usize,
     pub end: usize,

@@ -8,7 +8,7 @@ use crate::kinds::{Kind, kind_of};
 use crate::trim::content_of;
 
 // What a byte does: it goes on the token, ends it, or opens a quote or closes it, which leaves 0 as the open quote.
-#[derive(Drop)]
+#[derive(Clone, Copy)]
 pub enum Act {
     Add,
     End,
@@ -17,7 +17,7 @@ pub enum Act {
 
 // Where the walk stands: the next byte's place, the open quote or 0, how many tokens are still to pass, how many bytes
 // the token so far has, and whether the walk goes on. When it is over, len is the length of what was found.
-#[derive(Drop)]
+#[derive(Clone, Copy)]
 pub struct Walk {
     pub at: usize,
     pub quote: u8,

@@ -1,4 +1,6 @@
 // Whether a model in lent slices is well formed: document 01's list, one rule after the other.
+#![tactic(auto)]
+
 mod atoms;
 mod chains;
 mod fields;

@@ -1,7 +1,7 @@
 // What a writing answers.
 use refusals::Reason;
 
-#[derive(Drop)]
+#[derive(Clone, Copy)]
 pub enum Answer {
     // How many bytes were written.
     Written(usize),

@@ -1,4 +1,6 @@
 // `write_by_names`: the text of a model in lent records, byte for byte, or a refusal; `write_well_formed`: of one known to be well formed.
+#![tactic(auto)]
+
 mod answers;
 mod atoms;
 mod chains;

@@ -8,7 +8,7 @@ ghost use Rattle.writer.specs.PolymerNumbers.{number_after, begun, walked_to};
 use field_slices::u64_at;
 use model::{Residue, is_polymer, residue_at};
 
-#[derive(Drop)]
+#[derive(Clone, Copy)]
 pub struct Walk {
     pub index: usize,
     // Counted also where the residue is of no polymer: then it is the number of the last one before it.

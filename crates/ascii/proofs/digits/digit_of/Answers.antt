@@ -1,0 +1,12 @@
+-- Each return is one case of `digitOf`, by the tests that led there.
+use borrow.Author.Tests.{le-leb, lt-leb}
+use Rattle.ascii.proofs.digits.digit_of.Goals as goal
+
+pub returns-then-b-lt48 : goal.returns-then-b-lt48
+returns-then-b-lt48 c = simp (lt-leb _ _ c.if-b-lt48.true)
+
+pub returns-then-b-gt57 : goal.returns-then-b-gt57
+returns-then-b-gt57 c = simp (le-leb _ _ c.if-b-lt48.false, lt-leb _ _ c.if-b-gt57.true)
+
+pub returns : goal.returns
+returns c = simp (le-leb _ _ c.if-b-lt48.false, le-leb _ _ c.if-b-gt57.false)
