@@ -1,0 +1,16 @@
+-- Both kinds to the front; the chains stand there.
+use mathlib.Core.Path.{refl}
+use Rattle.building.specs.Holds.{records_of}
+use Rattle.building.proofs.GatheringLaws.{all_gathered}
+use Rattle.building.proofs.gathering.gather.Goals as goal
+
+pub returns : goal.returns
+returns c =
+    let a = c.args in
+    let residues = c.gather_residues in
+    let atoms = c.gather_atoms in
+    let r = c.gather_residues.new in
+    let l = c.gather_atoms.new in
+    λ chains.
+    all_gathered (records_of chains a.residue-keys.now a.residue-names.now a.residue-marks.now a.atom-keys.now a.atom-names.now a.elements.now a.positions.now a.occupancies.now) a.held
+    (records_of chains r.0 r.1.0 r.1.1.0 l.0 l.1.0 l.1.1.0 l.1.1.1.0 l.1.1.1.1.0) refl residues.ensures atoms.ensures

@@ -1,0 +1,25 @@
+-- What is stored is what `class_of` says of the name that stood there, and the mark is read before the category goes over it.
+use mathlib.Core.Path.{◌≡◌, ap, ◌∙◌}
+use Prim.Native.Nat.{ℕ}
+use lib.ListN.{get_or, set}
+use Rattle.model.specs.Classes.{class_of}
+use Rattle.model.specs.declared.classes.Class.{Class}
+use Rattle.finishing.specs.Classing.{is_unknown_by}
+use Rattle.finishing.proofs.classes.classify_residue.Goals as goal
+
+pub returns : goal.returns
+returns c =
+    let a = c.args in
+    let i = a.i in
+    let k = c.class_of-class in
+    let e : k.result ≡ class_of (get_or a.names.now i 0) a.lone
+    = k.ensures ∙ ap (λ (n : ℕ). class_of n a.lone) c.u64_at.ensures in (
+      c.is_unknown.ensures ∙ (λ j. is_unknown_by (e j).code (c.byte_at-mark.ensures j)),
+      (
+        c.store_u64.ensures ∙ ap (λ (x : Class). set a.names.now i x.name) e,
+        (
+          c.store_u8.ensures ∙ ap (λ (x : Class). set a.codes.now i x.code) e,
+          c.store_u8-2.ensures ∙ ap (λ (x : Class). set a.categories.now i x.category) e,
+        ),
+      ),
+    )

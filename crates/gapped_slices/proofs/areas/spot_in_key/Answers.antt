@@ -1,0 +1,29 @@
+-- A spot in the part is one among the area's entries.
+-- the area is in the slice
+use lib.ListN.{length}
+use Rattle.gapped_slices.specs.Areas.{Lies, entriesIn}
+use Rattle.gapped_slices.proofs.AreaLaws.{has_entries}
+use borrow.Author.Rules.{rules}
+use Rattle.gapped_slices.proofs.areas.spot_in_key.Goals as goal
+
+lies : (p : goal.Then-is_area) → let a = c.args in Lies a.area (length a.keys.now)
+lies p = p.is_area.ensures.0 p.if-is_area.true
+
+pub offset_bounds-keys-from : goal.offset_bounds-keys-from
+offset_bounds-keys-from c = let h = lies c in search rules
+
+pub slice_bounds-spot_of_key-count : goal.slice_bounds-spot_of_key-count
+slice_bounds-spot_of_key-count c = (lies c).ordered
+
+pub slice_bounds-spot_of_key-start : goal.slice_bounds-spot_of_key-start
+slice_bounds-spot_of_key-start c = (lies c).ordered
+
+pub slice_bounds-spot_of_key-end : goal.slice_bounds-spot_of_key-end
+slice_bounds-spot_of_key-end c = (lies c).inside
+
+pub returns-then-is_area : goal.returns-then-is_area
+unfolding entriesIn
+returns-then-is_area c = let a = c.args in λ w. c.spot_of_key.ensures (has_entries a.area a.keys.now w)
+
+pub returns : goal.returns
+returns c = λ w. absurd (c.is_area.ensures.1 c.if-is_area.false w)

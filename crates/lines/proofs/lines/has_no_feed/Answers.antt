@@ -1,0 +1,27 @@
+-- The greatest mark of the bytes passed is kept, and after the last byte, the block's 16th, it tells of all.
+use mathlib.Core.Path.{sym, subst}
+use mathlib.Core.Logic.{⊎_elim}
+use Prim.Native.Nat.{ℕ, ◌+◌, ◌-◌, ◌<◌}
+use native.Mathlib.Omega.{arith}
+use lib.ListN.{length}
+use Rattle.lines.specs.Lines.{is_no_feed}
+use Rattle.lines.proofs.MarkLaws.{MarkedTo, greater_mark, smaller_mark, all_marked}
+use Rattle.lines.proofs.lines.has_no_feed.Goals as goal
+
+pub loop-i-preserved : goal.loop-i-preserved
+loop-i-preserved c =
+    let block = c.args.block.now in
+    let l = c.loop-i in
+    let begins : l.i < length block = omega arith in
+    let mark = c.feed_mark-mark.ensures in
+    let known : ℕ → Type 0 = MarkedTo is_no_feed block (l.i + 1) in
+    ⊎_elim
+    (λ w. subst known (sym w.1) (greater_mark is_no_feed block l.i begins mark l.invariant w.0.taken))
+    (λ w. subst known (sym w.1) (smaller_mark is_no_feed block l.i begins mark l.invariant w.0.left))
+    c.if-most-mark.branch
+
+pub returns : goal.returns
+returns c =
+    let block = c.args.block.now in
+    let l = c.loop-i in
+    sym (all_marked is_no_feed block l.i l.most (omega arith) l.invariant)

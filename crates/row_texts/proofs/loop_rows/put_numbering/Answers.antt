@@ -1,0 +1,15 @@
+-- Each field is put where the blank before it ends, and a blank where the field ends.
+use Prim.Native.Nat.{◌^◌, ◌<◌}
+use native.Mathlib.Omega.{arith}
+use lib.ListN.{length}
+use Rattle.row_texts.specs.Rows.{blanked}
+use Rattle.row_texts.proofs.EmittedLaws.{then}
+use Rattle.row_texts.proofs.loop_rows.put_numbering.Goals as goal
+
+pub returns : goal.returns
+unfolding blanked
+returns c =
+    let short : length c.args.out.now < 2 ^ 64 = omega arith in
+    then c.put_decimal-at.ensures (then c.put_byte-at.ensures
+    (then c.put_number-at.ensures (then c.put_byte-at-2.ensures
+    (then c.put_code-at.ensures (λ _. c.put_byte.ensures))))) short

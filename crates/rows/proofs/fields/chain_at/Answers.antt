@@ -1,0 +1,21 @@
+-- What lies between the column's two places is the token.
+use mathlib.Core.Path.{ap, ◌∙◌}
+use Prim.Native.Nat.{◌<◌}
+use native.Mathlib.Omega.{arith}
+use Rattle.rows.specs.Fields.{chain_of}
+use Rattle.rows.proofs.CellLaws.{lent}
+use Rattle.rows.proofs.fields.chain_at.Goals as goal
+
+pub slice_bounds-chain_of-count : goal.slice_bounds-chain_of-count
+slice_bounds-chain_of-count c = c.part_at-part.ensures.ordered
+
+pub slice_bounds-chain_of-start : goal.slice_bounds-chain_of-start
+slice_bounds-chain_of-start c = c.part_at-part.ensures.ordered
+
+pub slice_bounds-chain_of-end : goal.slice_bounds-chain_of-end
+slice_bounds-chain_of-end c = c.part_at-part.ensures.within
+
+pub returns : goal.returns
+returns c =
+    let small : c.args.column < 256 = omega arith in
+    c.chain_of.ensures ∙ ap chain_of (lent c.part_at-part.ensures small held)

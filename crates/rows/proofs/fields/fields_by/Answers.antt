@@ -1,0 +1,13 @@
+-- The cell and the places are long enough, so that the tokens stand in the cell.
+use Rattle.rows.proofs.CellLaws.{in_room}
+use Rattle.rows.proofs.fields.fields_by.Goals as goal
+
+pub returns : goal.returns
+returns c =
+    let split = c.split_mmcif_line-n in
+    let a = c.args in
+    c.fields_in.ensures a.line.now
+    (record {
+      many = split.ensures.0;
+      tokens = λ k h. rw (split.ensures.0, split.ensures.1.0, split.ensures.1.1) (in_room a.line.now a.cell.now a.places.now c.requires.0 c.requires.1 k h);
+    })

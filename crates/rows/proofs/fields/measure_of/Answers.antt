@@ -1,0 +1,11 @@
+-- A missing number is missing, any other is what the text says.
+use mathlib.Core.Path.{ap, ◌∙◌}
+use Rattle.rows.specs.declared.fields.Measure.TheVariants.{Given}
+use Rattle.rows.proofs.CaseLaws.{by_true, by_false}
+use Rattle.rows.proofs.fields.measure_of.Goals as goal
+
+pub returns-then-is_missing : goal.returns-then-is_missing
+returns-then-is_missing c = by_true _ _ c.is_missing.ensures c.if-is_missing.true
+
+pub returns : goal.returns
+returns c = ap Given c.read_number.ensures ∙ by_false _ _ c.is_missing.ensures c.if-is_missing.false

@@ -1,0 +1,87 @@
+-- A text that is not read is refused as the reader says; one that is read leaves the model in the records, from which it is written.
+-- the slices at entry
+use mathlib.Core.Path.{sym, ◌∙◌}
+use Rattle.model.specs.Lent.{Lent, lent_of}
+use Rattle.readings.proofs.SlicesOfOneSize.{same_holding}
+use Rattle.service.proofs.ServingLaws.{read_well, serve_unread, serve_read}
+use Rattle.service.proofs.serving.serve.Goals as goal
+
+abbrev entry : tie.Start → Lent
+entry s =
+    lent_of
+    s.args.chains.now
+    s.args.residue-keys.now
+    s.args.residue-names.now
+    s.args.residue-codes.now
+    s.args.residue-categories.now
+    s.args.residue-positions.now
+    s.args.atom-keys.now
+    s.args.atom-names.now
+    s.args.elements.now
+    s.args.positions.now
+    s.args.occupancies.now
+
+-- the slices as the reading leaves them
+abbrev left : tie.After-read-by-names → Lent
+left p =
+    let l = p.read-by-names.new.1 in
+    lent_of
+    l.0
+    l.1.0
+    l.1.1.0
+    l.1.1.1.0
+    l.1.1.1.1.0
+    l.1.1.1.1.1.0
+    l.1.1.1.1.1.1.0
+    l.1.1.1.1.1.1.1.0
+    l.1.1.1.1.1.1.1.1.0
+    l.1.1.1.1.1.1.1.1.1.0
+    l.1.1.1.1.1.1.1.1.1.1.0
+
+-- and as the writing leaves them
+abbrev written : tie.After-write-out → Lent
+written p =
+    let l = p.write-out.new.1 in
+    lent_of
+    l.0
+    l.1.0
+    l.1.1.0
+    l.1.1.1.0
+    l.1.1.1.1.0
+    l.1.1.1.1.1.0
+    l.1.1.1.1.1.1.0
+    l.1.1.1.1.1.1.1.0
+    l.1.1.1.1.1.1.1.1.0
+    l.1.1.1.1.1.1.1.1.1.0
+    l.1.1.1.1.1.1.1.1.1.1.0
+
+pub write_out-requires : goal.write_out-requires
+write_out-requires c =
+    let answer = c.answer-in-Read-1.given in
+    let r = c.read_by_names-answer in
+    read_well c.args.settings (entry c) c.args.text.now answer.0.0 (left c) (sym answer.1 ∙ r.ensures.0) r.ensures.1
+
+pub returns-in-Refused : goal.returns-in-Refused
+returns-in-Refused c =
+    let r = c.read_by_names-answer in
+    serve_unread c.args.settings (entry c) c.args.text.now c.args.out.now c.in-Refused.why (left c) (sym c.in-Refused.is ∙ r.ensures.0) r.ensures.1
+
+pub returns-in-Read : goal.returns-in-Read
+returns-in-Read c =
+    let r = c.read_by_names-answer in
+    serve_read c.args.settings (entry c) c.args.text.now c.args.out.now c.in-Read.counts (left c) (written c) c.write_out.result c.write_out.new.out (sym c.in-Read.is ∙ r.ensures.0) r.ensures.1
+    (same_holding (entry c) (left c)
+    (record {
+      chains = c.chains-1.given;
+      residue_keys = c.residue_keys-1.given;
+      residue_names = c.residue_names-1.given;
+      residue_marks = c.residue_categories-1.given;
+      atom_keys = c.atom_keys-1.given;
+      atom_names = c.atom_names-1.given;
+      elements = c.elements-1.given;
+      positions = c.positions-1.given;
+      occupancies = c.occupancies-1.given;
+    })
+    c.residue_codes-1.given
+    c.residue_positions-1.given)
+    c.write_out.ensures

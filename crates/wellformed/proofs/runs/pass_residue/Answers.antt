@@ -1,0 +1,27 @@
+-- What is passed, and the run that is left from index i on, make the whole.
+use Prim.Native.Nat.{◌-◌}
+use native.Mathlib.Omega.{arith}
+use Rattle.wellformed.specs.Slices.{entries}
+use Rattle.wellformed.proofs.FromLaws.{equals_on, equals_stops, equals_end}
+use Rattle.wellformed.proofs.runs.pass_residue.Goals as goal
+
+pub loop-i-init : goal.loop-i-init
+loop-i-init c = omega arith
+
+pub returns-then-keys-i : goal.returns-then-keys-i
+returns-then-keys-i c =
+    let a = c.args in
+    let l = c.loop-i in
+    omega (arith, l.invariant, equals_stops (entries a.keys.now) a.n l.i a.key c.loop-i-test.true c.if-keys-i.true)
+
+pub loop-i-preserved : goal.loop-i-preserved
+loop-i-preserved c =
+    let a = c.args in
+    let l = c.loop-i in
+    omega (arith, l.invariant, equals_on (entries a.keys.now) a.n l.i a.key c.loop-i-test.true c.if-keys-i.false)
+
+pub returns : goal.returns
+returns c =
+    let a = c.args in
+    let l = c.loop-i in
+    omega (arith, l.invariant, equals_end (entries a.keys.now) a.n l.i a.key c.loop-i-test.false)

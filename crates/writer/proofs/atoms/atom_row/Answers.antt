@@ -1,0 +1,23 @@
+-- Each field is what the call for it answered.
+use mathlib.Core.Path.{ap, ◌∙◌}
+use native.Mathlib.Numerals.{add-one}
+use Prim.Native.Nat.{suc}
+use Rattle.writer.proofs.atoms.atom_row.Goals as goal
+
+pub returns : goal.returns
+returns c =
+    let a = c.args in
+    let entity = add-one c.chain_part.result ∙ ap suc c.chain_part.ensures in
+    λ i. record {
+      polymer = c.is_polymer.ensures i;
+      id = a.id;
+      element = a.atom.element;
+      atom = a.atom.name;
+      residue = a.walk.residue.name;
+      chain = c.chain_name.ensures i;
+      entity = entity i;
+      number = a.walk.number;
+      insertion_code = c.code_part.ensures i;
+      position = a.atom.position;
+      sequence = c.sequence_part.ensures i;
+    }
