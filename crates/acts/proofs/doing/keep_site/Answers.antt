@@ -6,7 +6,7 @@ use Rattle.building.specs.Holds.{Records, records_of}
 use Rattle.acts.proofs.ActLaws.{put_kept}
 use Rattle.acts.proofs.doing.keep_site.Goals as goal
 
-abbrev entry : tie.Start → List ℕ → Records
+abbrev entry : goal.Start → List ℕ → Records
 entry t chains = let a = t.args in records_of chains a.residue-keys.now a.residue-names.now a.residue-marks.now a.atom-keys.now a.atom-names.now a.elements.now a.positions.now a.occupancies.now
 
 pub returns : goal.returns

@@ -17,20 +17,20 @@ use Rattle.building.proofs.StoreLaws.{lies_pocket}
 use Rattle.building.proofs.atoms.empty_pocket.Goals as goal
 
 -- the slices at entry, at the head of the loop, and as an atom leaves them
-abbrev entry : tie.Start invariant-loop decreases-loop → AtomSlices
+abbrev entry : goal.Start → AtomSlices
 entry t = let a = t.args in atoms_of a.keys.now a.names.now a.elements.now a.positions.now a.occupancies.now
 
-abbrev here : tie.At-loop invariant-loop decreases-loop → AtomSlices
-here p = let h = p.loop in atoms_of h.keys h.names h.elements h.positions h.occupancies
+abbrev here : goal.At-loop-k → AtomSlices
+here p = let h = p.loop-k in atoms_of h.keys h.names h.elements h.positions h.occupancies
 
-abbrev after : tie.After-put-in invariant-loop decreases-loop → AtomSlices
-after p = let l = p.put_in.new in atoms_of l.0 l.1.0 l.1.1.0 l.1.1.1.0 l.1.1.1.1.0
+abbrev after : goal.After-put_in → AtomSlices
+after p = let l = p.put_in.new in atoms_of l.keys l.names l.elements l.positions l.occupancies
 
 -- ---- after the last
-module _ (c : goal.After-emptied invariant-loop decreases-loop) (room : ℕ) (m : Map Atom) (long : AtomsLong (entry c) room) (h : Apart (AtomsIn (entry c)) room c.args.store m) where
-  abbrev t : tie.Start invariant-loop decreases-loop
+module _ (c : goal.After-emptied) (room : ℕ) (m : Map Atom) (long : AtomsLong (entry c) room) (h : Apart (AtomsIn (entry c)) room c.args.store m) where
+  abbrev t : goal.Start
   t = c
-  abbrev p : tie.At-loop invariant-loop decreases-loop
+  abbrev p : goal.At-loop-k
   p = c
   small : room < 2 ^ 64
   small = omega (arith, long.keys, t.good.0.0, t.good.0.1)
@@ -63,11 +63,11 @@ loop-k-preserved c =
     let so_far = c.loop-k.invariant.0 in
     let taken = c.loop-k-test.true in (
       record {
-        keys = put.0.elsewhere.long ∙ so_far.keys;
-        names = put.1.0.elsewhere.long ∙ so_far.names;
-        elements = put.1.1.0.elsewhere.long ∙ so_far.elements;
-        positions = put.1.1.1.0.elsewhere.long ∙ so_far.positions;
-        occupancies = put.1.1.1.1.elsewhere.long ∙ so_far.occupancies;
+        keys = put.puts_in.elsewhere.long ∙ so_far.keys;
+        names = put.puts_in_2.elsewhere.long ∙ so_far.names;
+        elements = put.puts_in_3.elsewhere.long ∙ so_far.elements;
+        positions = put.puts_in_4.elsewhere.long ∙ so_far.positions;
+        occupancies = put.puts_in_5.elsewhere.long ∙ so_far.occupancies;
       },
       omega (arith, taken),
       λ room small long m h all.
@@ -78,7 +78,7 @@ loop-k-preserved c =
           (c.loop-k.invariant.2 room small long m h all)
           c.stand-at.result c.u64_at-key.result c.u64_at-name.result c.u8_at-element.result c.point_at-position.result c.f64_at-occupancy.result
           (c.stand-at.ensures room lies low) c.u64_at-key.ensures c.u64_at-name.ensures c.u8_at-element.ensures c.point_at-position.ensures c.f64_at-occupancy.ensures
-          c.spot_in-spot.result c.spot_in-spot.ensures c.with_entry-main.result c.with_entry-main.ensures put.0 put.1.0 put.1.1.0 put.1.1.1.0 put.1.1.1.1),
+          c.spot_in-spot.result c.spot_in-spot.ensures c.with_entry-main.result c.with_entry-main.ensures put.puts_in put.puts_in_2 put.puts_in_3 put.puts_in_4 put.puts_in_5),
     )
 
 pub returns : goal.returns

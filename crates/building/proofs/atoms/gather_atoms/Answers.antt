@@ -10,12 +10,12 @@ use Rattle.building.proofs.atoms.gather_atoms.Goals as goal
 
 -- the slices at entry, with the pocket emptied, and gathered
 module _ (c : goal.After-slice_known-12-1) where
-  abbrev t : tie.Start
+  abbrev t : goal.Start
   t = c
   abbrev entry : AtomSlices
   entry = let a = t.args in atoms_of a.keys.now a.names.now a.elements.now a.positions.now a.occupancies.now
   abbrev mid : AtomSlices
-  mid = let l = c.empty_pocket-store.new in atoms_of l.0 l.1.0 l.1.1.0 l.1.1.1.0 l.1.1.1.1.0
+  mid = let l = c.empty_pocket-store.new in atoms_of l.keys l.names l.elements l.positions l.occupancies
   abbrev gathered : AtomSlices
   gathered = atoms_of c.move_in_u64.new.words c.move_in_u64-2.new.words c.move_in_u8.new.bytes c.move_in_point.new.points c.move_in_f64.new.floats
   same_all : AtomsSame entry gathered

@@ -12,16 +12,16 @@ use Rattle.building.proofs.AtomStores.{no_atoms, atoms_wider, atoms_still_long}
 use Rattle.building.proofs.StoreLaws.{apart_widened}
 use Rattle.building.proofs.atoms.make_room.Goals as goal
 
-abbrev entry : tie.Start → AtomSlices
+abbrev entry : goal.Start → AtomSlices
 entry t = let a = t.args in atoms_of a.keys.now a.names.now a.elements.now a.positions.now a.occupancies.now
 
-abbrev after : tie.After-empty-pocket → AtomSlices
-after p = let l = p.empty-pocket.new in atoms_of l.0 l.1.0 l.1.1.0 l.1.1.1.0 l.1.1.1.1.0
+abbrev after : goal.After-empty_pocket-store → AtomSlices
+after p = let l = p.empty_pocket-store.new in atoms_of l.keys l.names l.elements l.positions l.occupancies
 
 module _ (c : goal.After-widened) (m : Map Atom) (long : AtomsLong (entry c) c.args.room) (h : Apart (AtomsIn (entry c)) c.args.room c.args.store m) (low : length m < c.args.room) where
   abbrev room : ℕ
   room = c.args.room
-  abbrev emptied : tie.After-empty-pocket
+  abbrev emptied : goal.After-empty_pocket-store
   emptied = c
   held_then : Apart (AtomsIn (after emptied)) room emptied.empty-pocket.result m
   held_then = emptied.empty-pocket.ensures.apart room m long h
@@ -35,10 +35,9 @@ module _ (c : goal.After-widened) (m : Map Atom) (long : AtomsLong (entry c) c.a
       (λ full to lo hi i. atoms_wider (after emptied) room (atoms_still_long (entry c) (after emptied) room emptied.empty-pocket.ensures.same long) emptied.empty-pocket.result.main
       held_then.lays.start full to lo hi m i)
 
-}
-
 pub returns : goal.returns
 returns c = record {
   same = c.empty_pocket-store.ensures.same;
   apart = whole c;
   roomy = λ m long h low. let w = wide c m long h low in omega (arith, w.roomy, w.pocket);
+}

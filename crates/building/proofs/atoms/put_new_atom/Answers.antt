@@ -8,7 +8,7 @@ use Rattle.building.proofs.AtomStores.{atoms_still_long}
 use Rattle.building.proofs.AtomsPut.{main_place, put_main, put_pocket}
 use Rattle.building.proofs.atoms.put_new_atom.Goals as goal
 
-abbrev entry : tie.Start → AtomSlices
+abbrev entry : goal.Start → AtomSlices
 entry t = let a = t.args in atoms_of a.keys.now a.names.now a.elements.now a.positions.now a.occupancies.now
 
 small : (t : goal.Start) → AtomsLong (entry t) t.args.room → t.args.room < 2 ^ 64
@@ -23,11 +23,11 @@ returns-in-Main c =
     let put = c.put_in in
     let after = atoms_of put.new.keys put.new.names put.new.elements put.new.positions put.new.occupancies in
     λ v e p o. record {
-      same = record { keys = put.ensures.0.elsewhere.long; names = put.ensures.1.0.elsewhere.long; elements = put.ensures.1.1.0.elsewhere.long; positions = put.ensures.1.1.1.0.elsewhere.long; occupancies = put.ensures.1.1.1.1.elsewhere.long };
+      same = record { keys = put.ensures.puts_in.elsewhere.long; names = put.ensures.puts_in_2.elsewhere.long; elements = put.ensures.puts_in_3.elsewhere.long; positions = put.ensures.puts_in_4.elsewhere.long; occupancies = put.ensures.puts_in_5.elsewhere.long };
       apart = λ m long h low absent place.
           let roomy = subst (Leads a.store) c.in-Main.is (c.way_of-way.ensures a.room h.lays (small c long)) in
           put_main (entry c) after a.room (small c long) long a.store c.in_main.result a.key a.name a.element a.position a.occupancy (small_name c) v e p o m h absent roomy a.at place c.in_main.ensures
-          put.ensures.0 put.ensures.1.0 put.ensures.1.1.0 put.ensures.1.1.1.0 put.ensures.1.1.1.1;
+          put.ensures.puts_in put.ensures.puts_in_2 put.ensures.puts_in_3 put.ensures.puts_in_4 put.ensures.puts_in_5;
     }
 
 pub returns-in-Pocket : goal.returns-in-Pocket
@@ -36,11 +36,11 @@ returns-in-Pocket c =
     let put = c.put_in-in-Pocket in
     let after = atoms_of put.new.keys put.new.names put.new.elements put.new.positions put.new.occupancies in
     λ v e p o. record {
-      same = record { keys = put.ensures.0.elsewhere.long; names = put.ensures.1.0.elsewhere.long; elements = put.ensures.1.1.0.elsewhere.long; positions = put.ensures.1.1.1.0.elsewhere.long; occupancies = put.ensures.1.1.1.1.elsewhere.long };
+      same = record { keys = put.ensures.puts_in.elsewhere.long; names = put.ensures.puts_in_2.elsewhere.long; elements = put.ensures.puts_in_3.elsewhere.long; positions = put.ensures.puts_in_4.elsewhere.long; occupancies = put.ensures.puts_in_5.elsewhere.long };
       apart = λ m long h low absent place.
           let roomy = subst (Leads a.store) c.in-Pocket.is (c.way_of-way.ensures a.room h.lays (small c long)) in
           put_pocket (entry c) after a.room (small c long) long a.store c.in_pocket.result a.key a.name a.element a.position a.occupancy (small_name c) v e p o m h absent roomy.0
-          c.spot_in-spot.result c.spot_in-spot.ensures roomy.1 c.in_pocket.ensures put.ensures.0 put.ensures.1.0 put.ensures.1.1.0 put.ensures.1.1.1.0 put.ensures.1.1.1.1;
+          c.spot_in-spot.result c.spot_in-spot.ensures roomy.1 c.in_pocket.ensures put.ensures.puts_in put.ensures.puts_in_2 put.ensures.puts_in_3 put.ensures.puts_in_4 put.ensures.puts_in_5;
     }
 
 pub returns-in-Emptied : goal.returns-in-Emptied
@@ -53,11 +53,11 @@ returns-in-Emptied c =
     let look = c.spot_in-spot-in-Emptied in
     λ v e p o. record {
       same = record {
-        keys = put.ensures.0.elsewhere.long ∙ made.ensures.same.keys;
-        names = put.ensures.1.0.elsewhere.long ∙ made.ensures.same.names;
-        elements = put.ensures.1.1.0.elsewhere.long ∙ made.ensures.same.elements;
-        positions = put.ensures.1.1.1.0.elsewhere.long ∙ made.ensures.same.positions;
-        occupancies = put.ensures.1.1.1.1.elsewhere.long ∙ made.ensures.same.occupancies;
+        keys = put.ensures.puts_in.elsewhere.long ∙ made.ensures.same.keys;
+        names = put.ensures.puts_in_2.elsewhere.long ∙ made.ensures.same.names;
+        elements = put.ensures.puts_in_3.elsewhere.long ∙ made.ensures.same.elements;
+        positions = put.ensures.puts_in_4.elsewhere.long ∙ made.ensures.same.positions;
+        occupancies = put.ensures.puts_in_5.elsewhere.long ∙ made.ensures.same.occupancies;
       };
       apart = λ m long h low absent place.
           let whole = made.ensures.apart m long h low in
@@ -65,5 +65,5 @@ returns-in-Emptied c =
           let still = atoms_still_long (entry c) mid a.room made.ensures.same long in
           let found = main_place mid after a.room (small c long) still made.result c.in_main-in-Emptied.result a.key a.name a.element a.position a.occupancy (small_name c) v e p o m whole absent roomy look.result look.ensures in
           put_main mid after a.room (small c long) still made.result c.in_main-in-Emptied.result a.key a.name a.element a.position a.occupancy (small_name c) v e p o m whole absent roomy look.result.front found
-          c.in_main-in-Emptied.ensures put.ensures.0 put.ensures.1.0 put.ensures.1.1.0 put.ensures.1.1.1.0 put.ensures.1.1.1.1;
+          c.in_main-in-Emptied.ensures put.ensures.puts_in put.ensures.puts_in_2 put.ensures.puts_in_3 put.ensures.puts_in_4 put.ensures.puts_in_5;
     }

@@ -11,7 +11,7 @@ use Rattle.building.proofs.chains.chain_place.Goals as goal
 
 -- the chains that are looked at, and how many they are
 abbrev Counted : Type 0
-Counted = tie.After-smaller
+Counted = goal.After-smaller-count
 
 abbrev chains : Counted → List ℕ
 chains p = p.before.before.args.chains.now

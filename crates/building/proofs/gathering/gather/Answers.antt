@@ -13,4 +13,4 @@ returns c =
     let l = c.gather_atoms.new in
     λ chains.
     all_gathered (records_of chains a.residue-keys.now a.residue-names.now a.residue-marks.now a.atom-keys.now a.atom-names.now a.elements.now a.positions.now a.occupancies.now) a.held
-    (records_of chains r.0 r.1.0 r.1.1.0 l.0 l.1.0 l.1.1.0 l.1.1.1.0 l.1.1.1.1.0) refl residues.ensures atoms.ensures
+    (records_of chains r.keys r.names r.marks l.keys l.names l.elements l.positions l.occupancies) refl residues.ensures atoms.ensures

@@ -17,20 +17,20 @@ use Rattle.building.proofs.StoreLaws.{lies_pocket}
 use Rattle.building.proofs.residues.empty_pocket.Goals as goal
 
 -- the slices at entry, at the head of the loop, and as a residue leaves them
-abbrev entry : tie.Start invariant-loop decreases-loop → ResidueSlices
+abbrev entry : goal.Start → ResidueSlices
 entry t = let a = t.args in residues_of a.keys.now a.names.now a.marks.now
 
-abbrev here : tie.At-loop invariant-loop decreases-loop → ResidueSlices
-here p = let h = p.loop in residues_of h.keys h.names h.marks
+abbrev here : goal.At-loop-k → ResidueSlices
+here p = let h = p.loop-k in residues_of h.keys h.names h.marks
 
-abbrev after : tie.After-put-in invariant-loop decreases-loop → ResidueSlices
-after p = let l = p.put_in.new in residues_of l.0 l.1.0 l.1.1.0
+abbrev after : goal.After-put_in → ResidueSlices
+after p = let l = p.put_in.new in residues_of l.keys l.names l.marks
 
 -- ---- after the last
-module _ (c : goal.After-emptied invariant-loop decreases-loop) (room : ℕ) (m : Map Residue) (long : ResiduesLong (entry c) room) (h : Apart (ResiduesIn (entry c)) room c.args.store m) where
-  abbrev t : tie.Start invariant-loop decreases-loop
+module _ (c : goal.After-emptied) (room : ℕ) (m : Map Residue) (long : ResiduesLong (entry c) room) (h : Apart (ResiduesIn (entry c)) room c.args.store m) where
+  abbrev t : goal.Start
   t = c
-  abbrev p : tie.At-loop invariant-loop decreases-loop
+  abbrev p : goal.At-loop-k
   p = c
   small : room < 2 ^ 64
   small = omega (arith, long.keys, t.good.0.0, t.good.0.1)
@@ -63,9 +63,9 @@ loop-k-preserved c =
     let so_far = c.loop-k.invariant.0 in
     let taken = c.loop-k-test.true in (
       record {
-        keys = put.0.elsewhere.long ∙ so_far.keys;
-        names = put.1.0.elsewhere.long ∙ so_far.names;
-        marks = put.1.1.elsewhere.long ∙ so_far.marks;
+        keys = put.puts_in.elsewhere.long ∙ so_far.keys;
+        names = put.puts_in_2.elsewhere.long ∙ so_far.names;
+        marks = put.puts_in_3.elsewhere.long ∙ so_far.marks;
       },
       omega (arith, taken),
       λ room small long m h all.
@@ -76,7 +76,7 @@ loop-k-preserved c =
           (c.loop-k.invariant.2 room small long m h all)
           c.stand-at.result c.u64_at-key.result c.u64_at-name.result c.u8_at-mark.result
           (c.stand-at.ensures room lies low) c.u64_at-key.ensures c.u64_at-name.ensures c.u8_at-mark.ensures
-          c.spot_in_key-spot.result c.spot_in_key-spot.ensures c.with_entry-main.result c.with_entry-main.ensures put.0 put.1.0 put.1.1),
+          c.spot_in_key-spot.result c.spot_in_key-spot.ensures c.with_entry-main.result c.with_entry-main.ensures put.puts_in put.puts_in_2 put.puts_in_3),
     )
 
 pub returns : goal.returns

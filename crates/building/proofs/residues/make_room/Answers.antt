@@ -13,17 +13,17 @@ use Rattle.building.proofs.ResiduesEmptied.{still_long}
 use Rattle.building.proofs.StoreLaws.{apart_widened}
 use Rattle.building.proofs.residues.make_room.Goals as goal
 
-abbrev entry : tie.Start → ResidueSlices
+abbrev entry : goal.Start → ResidueSlices
 entry t = let a = t.args in residues_of a.keys.now a.names.now a.marks.now
 
-abbrev after : tie.After-empty-pocket → ResidueSlices
-after p = let l = p.empty-pocket.new in residues_of l.0 l.1.0 l.1.1.0
+abbrev after : goal.After-empty_pocket-store → ResidueSlices
+after p = let l = p.empty_pocket-store.new in residues_of l.keys l.names l.marks
 
 module _ (c : goal.After-widened) (m : Map Residue) (long : ResiduesLong (entry c) c.args.room)
     (h : Apart (ResiduesIn (entry c)) c.args.room c.args.store m) (low : length m < c.args.room) where
   abbrev room : ℕ
   room = c.args.room
-  abbrev emptied : tie.After-empty-pocket
+  abbrev emptied : goal.After-empty_pocket-store
   emptied = c
   held_then : Apart (ResiduesIn (after emptied)) room emptied.empty-pocket.result m
   held_then = emptied.empty-pocket.ensures.apart room m long h
@@ -37,10 +37,9 @@ module _ (c : goal.After-widened) (m : Map Residue) (long : ResiduesLong (entry 
       (λ full to lo hi i. residues_wider (after emptied) room (still_long (entry c) (after emptied) room emptied.empty-pocket.ensures.same long) emptied.empty-pocket.result.main
       held_then.lays.start full to lo hi m i)
 
-}
-
 pub returns : goal.returns
 returns c = record {
   same = c.empty_pocket-store.ensures.same;
   apart = whole c;
   roomy = λ m long h low. let w = wide c m long h low in omega (arith, w.roomy, w.pocket);
+}

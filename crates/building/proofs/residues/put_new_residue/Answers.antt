@@ -8,7 +8,7 @@ use Rattle.building.proofs.ResiduesEmptied.{still_long}
 use Rattle.building.proofs.ResiduesPut.{main_place, put_main, put_pocket}
 use Rattle.building.proofs.residues.put_new_residue.Goals as goal
 
-abbrev entry : tie.Start → ResidueSlices
+abbrev entry : goal.Start → ResidueSlices
 entry t = let a = t.args in residues_of a.keys.now a.names.now a.marks.now
 
 small : (t : goal.Start) → ResiduesLong (entry t) t.args.room → t.args.room < 2 ^ 64
@@ -20,11 +20,11 @@ returns-in-Main c =
     let put = c.put_in in
     let after = residues_of put.new.keys put.new.names put.new.marks in
     λ v named marked. record {
-      same = record { keys = put.ensures.0.elsewhere.long; names = put.ensures.1.0.elsewhere.long; marks = put.ensures.1.1.elsewhere.long };
+      same = record { keys = put.ensures.puts_in.elsewhere.long; names = put.ensures.puts_in_2.elsewhere.long; marks = put.ensures.puts_in_3.elsewhere.long };
       apart = λ m long h low absent place.
           let roomy = subst (Leads a.store) c.in-Main.is (c.way_of-way.ensures a.room h.lays (small c long)) in
           put_main (entry c) after a.room (small c long) long a.store c.in_main.result a.key a.name a.mark v named marked m h absent roomy a.at place c.in_main.ensures
-          put.ensures.0 put.ensures.1.0 put.ensures.1.1;
+          put.ensures.puts_in put.ensures.puts_in_2 put.ensures.puts_in_3;
     }
 
 pub returns-in-Pocket : goal.returns-in-Pocket
@@ -33,11 +33,11 @@ returns-in-Pocket c =
     let put = c.put_in-in-Pocket in
     let after = residues_of put.new.keys put.new.names put.new.marks in
     λ v named marked. record {
-      same = record { keys = put.ensures.0.elsewhere.long; names = put.ensures.1.0.elsewhere.long; marks = put.ensures.1.1.elsewhere.long };
+      same = record { keys = put.ensures.puts_in.elsewhere.long; names = put.ensures.puts_in_2.elsewhere.long; marks = put.ensures.puts_in_3.elsewhere.long };
       apart = λ m long h low absent place.
           let roomy = subst (Leads a.store) c.in-Pocket.is (c.way_of-way.ensures a.room h.lays (small c long)) in
           put_pocket (entry c) after a.room (small c long) long a.store c.in_pocket.result a.key a.name a.mark v named marked m h absent roomy.0
-          c.spot_in_key-spot.result c.spot_in_key-spot.ensures roomy.1 c.in_pocket.ensures put.ensures.0 put.ensures.1.0 put.ensures.1.1;
+          c.spot_in_key-spot.result c.spot_in_key-spot.ensures roomy.1 c.in_pocket.ensures put.ensures.puts_in put.ensures.puts_in_2 put.ensures.puts_in_3;
     }
 
 pub returns-in-Emptied : goal.returns-in-Emptied
@@ -50,9 +50,9 @@ returns-in-Emptied c =
     let look = c.spot_in_key-spot-in-Emptied in
     λ v named marked. record {
       same = record {
-        keys = put.ensures.0.elsewhere.long ∙ made.ensures.same.keys;
-        names = put.ensures.1.0.elsewhere.long ∙ made.ensures.same.names;
-        marks = put.ensures.1.1.elsewhere.long ∙ made.ensures.same.marks;
+        keys = put.ensures.puts_in.elsewhere.long ∙ made.ensures.same.keys;
+        names = put.ensures.puts_in_2.elsewhere.long ∙ made.ensures.same.names;
+        marks = put.ensures.puts_in_3.elsewhere.long ∙ made.ensures.same.marks;
       };
       apart = λ m long h low absent place.
           let whole = made.ensures.apart m long h low in
@@ -60,5 +60,5 @@ returns-in-Emptied c =
           let still = still_long (entry c) mid a.room made.ensures.same long in
           let found = main_place mid after a.room (small c long) still made.result c.in_main-in-Emptied.result a.key a.name a.mark v named marked m whole absent roomy look.result look.ensures in
           put_main mid after a.room (small c long) still made.result c.in_main-in-Emptied.result a.key a.name a.mark v named marked m whole absent roomy look.result.front found
-          c.in_main-in-Emptied.ensures put.ensures.0 put.ensures.1.0 put.ensures.1.1;
+          c.in_main-in-Emptied.ensures put.ensures.puts_in put.ensures.puts_in_2 put.ensures.puts_in_3;
     }

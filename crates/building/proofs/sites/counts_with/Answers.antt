@@ -1,8 +1,6 @@
 -- One count to a call.
 use Rattle.building.proofs.sites.counts_with.Goals as goal
 
-}
-
 pub returns : goal.returns
 returns c = λ i. record {
   chains = c.one_more.ensures i;
@@ -12,3 +10,4 @@ returns c = λ i. record {
   skipped = c.args.counts.skipped;
   outdone = c.one_more-5.ensures i;
   assumed = c.one_more-6.ensures i;
+}

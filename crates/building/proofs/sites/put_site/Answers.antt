@@ -16,18 +16,18 @@ use Rattle.building.proofs.CountLaws.{no_fewer}
 use Rattle.building.proofs.SiteLaws.{lack_is, lengths_after, site_held}
 use Rattle.building.proofs.sites.put_site.Goals as goal
 
-abbrev entry : tie.Start → List ℕ → Records
+abbrev entry : goal.Start → List ℕ → Records
 entry t chains = let a = t.args in records_of chains a.residue-keys.now a.residue-names.now a.residue-marks.now a.atom-keys.now a.atom-names.now a.elements.now a.positions.now a.occupancies.now
 
 -- ---- the site stored
 module _ (c : goal.After-counts_with) where
-  abbrev t : tie.Start
+  abbrev t : goal.Start
   t = c
-  abbrev places : tie.After-places-of
+  abbrev places : goal.After-places_of-places
   places = c
-  abbrev residue : tie.After-store-residue
+  abbrev residue : goal.After-store_residue-residues
   residue = c
-  abbrev atom : tie.After-store-atom
+  abbrev atom : goal.After-store_atom-atoms
   atom = c
   abbrev after : List ℕ → Records
   after chains = let r = residue.store-residue.last in let l = atom.store-atom.last in records_of chains r.0 r.1.0 r.1.1.0 l.0 l.1.0 l.1.1.0 l.1.1.1.0 l.1.1.1.1.0

@@ -10,21 +10,21 @@ use Rattle.building.proofs.AtomsMet.{atom_met}
 use Rattle.building.proofs.MetAgain.{put_first, new_place}
 use Rattle.building.proofs.sites.store_atom.Goals as goal
 
-abbrev entry : tie.Start → AtomSlices
+abbrev entry : goal.Start → AtomSlices
 entry t = let a = t.args in atoms_of a.keys.now a.names.now a.elements.now a.positions.now a.occupancies.now
 
 -- ---- met before
 module _ (c : goal.After-slice_known-then-not-atom-2-1) where
-  abbrev t : tie.Start
+  abbrev t : goal.Start
   t = c
   abbrev replaced : AtomSlices
-  replaced = let l = c.replace_atom.new in atoms_of t.args.keys.now t.args.names.now l.0 l.1.0 l.1.1.0
+  replaced = let l = c.replace_atom.new in atoms_of t.args.keys.now t.args.names.now l.elements l.positions l.occupancies
 
 module _ (c : goal.After-slice_known-8-1) where
-  abbrev u : tie.Start
+  abbrev u : goal.Start
   u = c
   abbrev after : AtomSlices
-  after = let l = c.put_new_atom.new in atoms_of l.0 l.1.0 l.1.1.0 l.1.1.1.0 l.1.1.1.1.0
+  after = let l = c.put_new_atom.new in atoms_of l.keys l.names l.elements l.positions l.occupancies
   puts : PutsNew (AtomsSame (entry u) after) (AtomsLong (entry u)) (AtomsIn (entry u)) (AtomsIn after) u.args.room u.args.store u.args.places.atom.at
       (atom_place u.args.places.key u.args.site.atom) (atom_of u.args.site) c.put_new_atom.result
   puts = c.put_new_atom.ensures (atom_of u.args.site) refl c.point_of-point.ensures refl
@@ -35,9 +35,9 @@ returns-then-not-atom c =
     let x = c.replace_atom.ensures in
     let point = c.point_of-point in
     record {
-      same = atoms_same (entry (t c)) (replaced c) a.places.atom.at a.site.element point.result a.site.occupancy refl refl x.0 x.1.0 x.1.1;
+      same = atoms_same (entry (t c)) (replaced c) a.places.atom.at a.site.element point.result a.site.occupancy refl refl x.elements_after x.positions_after x.occupancies_after;
       apart = λ m long h sought low.
-          atom_met (entry (t c)) (replaced c) a.places.atom.at a.site.element point.result a.site.occupancy refl refl x.0 x.1.0 x.1.1 a.room long a.site refl point.ensures refl
+          atom_met (entry (t c)) (replaced c) a.places.atom.at a.site.element point.result a.site.occupancy refl refl x.elements_after x.positions_after x.occupancies_after a.room long a.site refl point.ensures refl
           a.store (atom_place a.places.key a.site.atom) m h a.places.atom refl sought (not-true _ c.if-not-atom.true);
     }
 

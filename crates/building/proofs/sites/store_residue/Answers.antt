@@ -7,14 +7,14 @@ use Rattle.building.specs.Stores.{Apart, PutsNew}
 use Rattle.building.proofs.MetAgain.{put_stays, put_first, new_place, met_value}
 use Rattle.building.proofs.sites.store_residue.Goals as goal
 
-abbrev entry : tie.Start → ResidueSlices
+abbrev entry : goal.Start → ResidueSlices
 entry t = let a = t.args in residues_of a.keys.now a.names.now a.marks.now
 
 module _ (c : goal.After-slice_known-6-1) where
-  abbrev t : tie.Start
+  abbrev t : goal.Start
   t = c
   abbrev after : ResidueSlices
-  after = let l = c.put_new_residue.new in residues_of l.0 l.1.0 l.1.1.0
+  after = let l = c.put_new_residue.new in residues_of l.keys l.names l.marks
   puts : PutsNew (ResiduesSame (entry t) after) (ResiduesLong (entry t)) (ResiduesIn (entry t)) (ResiduesIn after) t.args.room t.args.store t.args.places.residue.at t.args.places.key
       (residue_of t.args.site) c.put_new_residue.result
   puts = c.put_new_residue.ensures (residue_of t.args.site) refl c.mark_of-mark.ensures

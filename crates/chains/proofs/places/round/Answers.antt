@@ -6,7 +6,7 @@ use Rattle.chains.proofs.PlaceLaws.{round_on, round_again, round_past}
 use Rattle.chains.proofs.places.round.Goals as goal
 
 -- how many places there are from the first on
-ahead : (p : goal.After-smaller) → let a = c.args in a.many - p.smaller.result ≡ a.many - a.first
+ahead : (p : goal.After-smaller) → let a = p.args in a.many - p.smaller.result ≡ a.many - a.first
 ahead p = omega (arith, p.smaller.ensures)
 
 pub overflow_add-result : goal.overflow_add-result

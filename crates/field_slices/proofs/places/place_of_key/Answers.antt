@@ -13,7 +13,7 @@ use Rattle.field_slices.proofs.places.place_of_key.Goals as goal
 
 -- what is looked at, and how many entries that is
 abbrev Counted : Type 0
-Counted = tie.After-smaller
+Counted = goal.After-smaller-count
 
 abbrev keys : Counted → List ℕ
 keys p = p.before.before.args.keys.now

@@ -11,7 +11,7 @@ use Rattle.field_slices.proofs.places.search_key.Goals as goal
 
 -- a turn of the loop: the entry halfway is what the code reads there
 abbrev Turn : Type 0
-Turn = tie.In-loop invariant-loop decreases-loop
+Turn = goal.In-loop-lo
 
 abbrev halfway : Turn → ℕ
 halfway t = t.before.loop.lo + (t.before.loop.hi - t.before.loop.lo) / 2

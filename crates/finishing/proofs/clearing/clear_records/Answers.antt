@@ -7,7 +7,7 @@ use Rattle.model.specs.Lent.{Lent}
 use Rattle.finishing.proofs.ClearingLaws.{slices_cleared}
 use Rattle.finishing.proofs.clearing.clear_records.Goals as goal
 
-abbrev entry : tie.Start → List ℕ → Lent
+abbrev entry : goal.Start → List ℕ → Lent
 entry s names = record {
   chains = names;
   residue_keys = s.args.residue-keys.now;
@@ -20,7 +20,6 @@ entry s names = record {
   elements = s.args.elements.now;
   positions = s.args.positions.now;
   occupancies = s.args.occupancies.now;
-
 }
 
 pub returns : goal.returns

@@ -10,7 +10,7 @@ use Rattle.finishing.proofs.FinishingLaws.{chains_kept_lem, model_ends}
 use Rattle.finishing.proofs.GivenBack.{given_back}
 use Rattle.finishing.proofs.finished.finish_model.Goals as goal
 
-abbrev entry : tie.Start → List ℕ → Lent
+abbrev entry : goal.Start → List ℕ → Lent
 entry s names = record {
   chains = names;
   residue_keys = s.args.residue-keys.now;
@@ -23,7 +23,6 @@ entry s names = record {
   elements = s.args.elements.now;
   positions = s.args.positions.now;
   occupancies = s.args.occupancies.now;
-
 }
 
 pub returns : goal.returns

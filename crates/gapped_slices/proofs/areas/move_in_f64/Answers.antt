@@ -6,7 +6,7 @@ use Rattle.gapped_slices.proofs.AreaLaws.{moved_in, none_moved}
 use borrow.Author.Rules.{rules}
 use Rattle.gapped_slices.proofs.areas.move_in_f64.Goals as goal
 
-lies : (p : goal.Then-is_area) → let a = c.args in Lies a.area (length a.floats.now)
+lies : (p : goal.Then-is_area) → let a = p.args in Lies a.area (length a.floats.now)
 lies p = p.is_area.ensures.0 p.if-is_area.true
 
 pub offset_bounds-floats-from : goal.offset_bounds-floats-from

@@ -6,7 +6,7 @@ use Rattle.gapped_slices.proofs.AreaLaws.{put_in, none_put}
 use borrow.Author.Rules.{rules}
 use Rattle.gapped_slices.proofs.areas.put_in_u64.Goals as goal
 
-lies : (p : goal.Then-is_area) → let a = c.args in Lies a.area (length a.words.now)
+lies : (p : goal.Then-is_area) → let a = p.args in Lies a.area (length a.words.now)
 lies p = p.is_area.ensures.0 p.if-is_area.true
 
 pub offset_bounds-words-from : goal.offset_bounds-words-from

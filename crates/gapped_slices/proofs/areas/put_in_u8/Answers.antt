@@ -5,7 +5,7 @@ use Rattle.gapped_slices.specs.Areas.{Lies}
 use Rattle.gapped_slices.proofs.AreaLaws.{put_in, none_put}
 use Rattle.gapped_slices.proofs.areas.put_in_u8.Goals as goal
 
-lies : (p : goal.Then-is_area) → let a = c.args in Lies a.area (length a.bytes.now)
+lies : (p : goal.Then-is_area) → let a = p.args in Lies a.area (length a.bytes.now)
 lies p = p.is_area.ensures.0 p.if-is_area.true
 
 pub slice_bounds-put_u8-count : goal.slice_bounds-put_u8-count

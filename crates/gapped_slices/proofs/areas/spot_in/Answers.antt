@@ -7,10 +7,10 @@ use Rattle.gapped_slices.proofs.AreaLaws.{has_entries}
 use borrow.Author.Rules.{rules}
 use Rattle.gapped_slices.proofs.areas.spot_in.Goals as goal
 
-lies : (p : goal.Then-is_area) → let a = c.args in Lies a.area (length a.keys.now) × Lies a.area (length a.names.now)
+lies : (p : goal.Then-is_area) → let a = p.args in Lies a.area (length a.keys.now) × Lies a.area (length a.names.now)
 lies p =
     let h = p.is_area.ensures.0 p.if-is_area.true in
-    let e = c.smaller.ensures in (
+    let e = p.smaller.ensures in (
       record { ordered = h.ordered; inside = omega (arith, h.inside, e); fits = h.fits },
       record { ordered = h.ordered; inside = omega (arith, h.inside, e); fits = h.fits },
     )

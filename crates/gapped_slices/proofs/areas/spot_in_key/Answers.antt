@@ -6,7 +6,7 @@ use Rattle.gapped_slices.proofs.AreaLaws.{has_entries}
 use borrow.Author.Rules.{rules}
 use Rattle.gapped_slices.proofs.areas.spot_in_key.Goals as goal
 
-lies : (p : goal.Then-is_area) → let a = c.args in Lies a.area (length a.keys.now)
+lies : (p : goal.Then-is_area) → let a = p.args in Lies a.area (length a.keys.now)
 lies p = p.is_area.ensures.0 p.if-is_area.true
 
 pub offset_bounds-keys-from : goal.offset_bounds-keys-from

@@ -8,7 +8,7 @@ use Rattle.gapped_slices.specs.Areas.{Lies}
 use Rattle.gapped_slices.proofs.AreaLaws.{stand_before, stand_behind}
 use Rattle.gapped_slices.proofs.areas.stand.Goals as goal
 
-lies : (p : goal.Then-is_area) → let a = c.args in Lies a.area a.area.to
+lies : (p : goal.Then-is_area) → let a = p.args in Lies a.area a.area.to
 lies p = p.is_area.ensures.0 p.if-is_area.true
 
 pub overflow_add-result : goal.overflow_add-result

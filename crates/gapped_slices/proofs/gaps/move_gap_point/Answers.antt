@@ -8,8 +8,8 @@ use borrow.Author.Tests.{leb-true, leb-false}
 use Rattle.gapped_slices.proofs.GapLaws.{not_moved}
 use Rattle.gapped_slices.proofs.gaps.move_gap_point.Goals as goal
 
-roomy : (p : goal.Else-not-is_within) → let a = c.args in a.front + a.behind ≤ length a.points.now
-roomy p = let a = c.args in leb-true (a.front + a.behind) (length a.points.now) (sym p.is_within.ensures ∙ p.if-not-is_within.false)
+roomy : (p : goal.Else-not-is_within) → let a = p.args in a.front + a.behind ≤ length a.points.now
+roomy p = let a = p.args in leb-true (a.front + a.behind) (length a.points.now) (sym p.is_within.ensures ∙ p.if-not-is_within.false)
 
 pub returns-then-not-is_within : goal.returns-then-not-is_within
 returns-then-not-is_within c = let a = c.args in not_moved (λ w t. omega (arith, w, leb-false (a.front + a.behind) (length a.points.now) (sym c.is_within.ensures ∙ c.if-not-is_within.true)))

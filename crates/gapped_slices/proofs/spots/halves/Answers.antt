@@ -12,7 +12,7 @@ use Rattle.gapped_slices.proofs.spots.halves.Goals as goal
 
 -- a turn of the loop: the entry halfway is the two that the code reads there
 abbrev Turn : Type 0
-Turn = tie.In-loop invariant-loop decreases-loop
+Turn = goal.In-loop-lo
 
 abbrev halfway : Turn → ℕ
 halfway t = t.before.loop.lo + (t.before.loop.hi - t.before.loop.lo) / 2

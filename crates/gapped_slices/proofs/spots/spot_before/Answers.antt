@@ -11,9 +11,9 @@ use Rattle.gapped_slices.proofs.SpotLaws.{first_pairs_of, spotted_in, narrowed_i
 use Rattle.gapped_slices.proofs.spots.spot_before.Goals as goal
 
 -- the last entry is the two that the code reads
-entry : (t : goal.In-loop-i invariant-loop decreases-loop) → let a = c.args in
+entry : (t : goal.In-loop-i) → let a = t.args in
     get_or (take a.front (pairs a.keys.now a.names.now)) (t.loop-i.i - 1) (0, 0) ≡ (get_or a.keys.now (t.loop-i.i - 1) 0, get_or a.names.now (t.loop-i.i - 1) 0)
-entry t = let a = c.args in first_pairs_at a.keys.now a.names.now a.front (t.loop-i.i - 1) (omega arith) (omega arith) (omega arith)
+entry t = let a = t.args in first_pairs_at a.keys.now a.names.now a.front (t.loop-i.i - 1) (omega arith) (omega arith) (omega arith)
 
 pub loop-i-init : goal.loop-i-init
 loop-i-init c = let a = c.args in narrowed_starts by_both (0, 0) (omega (arith, length_first_pairs a.keys.now a.names.now a.front))

@@ -11,8 +11,8 @@ use Rattle.gapped_slices.proofs.SpotLaws.{first_of, spotted_in, narrowed_in, spo
 use Rattle.gapped_slices.proofs.spots.spot_before_key.Goals as goal
 
 -- the last entry is what the code reads
-entry : (t : goal.In-loop-i invariant-loop decreases-loop) → let a = c.args in get_or (take a.front a.keys.now) (t.loop-i.i - 1) 0 ≡ get_or a.keys.now (t.loop-i.i - 1) 0
-entry t = let a = c.args in get_or-take a.front a.keys.now (t.loop-i.i - 1) 0 (omega arith)
+entry : (t : goal.In-loop-i) → let a = t.args in get_or (take a.front a.keys.now) (t.loop-i.i - 1) 0 ≡ get_or a.keys.now (t.loop-i.i - 1) 0
+entry t = let a = t.args in get_or-take a.front a.keys.now (t.loop-i.i - 1) 0 (omega arith)
 
 pub loop-i-init : goal.loop-i-init
 loop-i-init c = narrowed_starts numbers 0 (length-take-le _ _ c.requires)

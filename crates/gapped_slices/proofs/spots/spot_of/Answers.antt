@@ -13,15 +13,15 @@ use Rattle.field_slices.proofs.PairLaws.{length_pairs, length_first_pairs}
 use Rattle.gapped_slices.proofs.SpotLaws.{rest_of, spotted_in, spot_in_first, spot_in_second}
 use Rattle.gapped_slices.proofs.spots.spot_of.Goals as goal
 
-roomy : (p : goal.Else-not-is_within-2) → let a = c.args in (a.front + a.behind ≤ length a.keys.now) × (a.front + a.behind ≤ length a.names.now)
+roomy : (p : goal.Else-not-is_within-2) → let a = p.args in (a.front + a.behind ≤ length a.keys.now) × (a.front + a.behind ≤ length a.names.now)
 roomy p =
-    let a = c.args in (
+    let a = p.args in (
       leb-true (a.front + a.behind) (length a.keys.now) (sym p.is_within.ensures ∙ p.if-not-is_within.false),
       leb-true (a.front + a.behind) (length a.names.now) (sym p.is_within-2.ensures ∙ p.if-not-is_within-2.false),
     )
 
-many : (p : goal.Else-not-is_within-2) → let a = c.args in length (take a.front (pairs a.keys.now a.names.now)) ≡ a.front
-many p = let a = c.args in let q = roomy p in omega (arith, q.0, q.1, length_first_pairs a.keys.now a.names.now a.front)
+many : (p : goal.Else-not-is_within-2) → let a = p.args in length (take a.front (pairs a.keys.now a.names.now)) ≡ a.front
+many p = let a = p.args in let q = roomy p in omega (arith, q.0, q.1, length_first_pairs a.keys.now a.names.now a.front)
 
 pub returns-then-not-is_within : goal.returns-then-not-is_within
 returns-then-not-is_within c = let a = c.args in λ w v. absurd (omega (arith, w, leb-false (a.front + a.behind) (length a.keys.now) (sym c.is_within.ensures ∙ c.if-not-is_within.true)))

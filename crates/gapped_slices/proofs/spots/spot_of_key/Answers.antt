@@ -12,8 +12,8 @@ use Rattle.field_slices.proofs.OrderLaws.{numbers}
 use Rattle.gapped_slices.proofs.SpotLaws.{rest_of, spotted_in, spot_in_first, spot_in_second}
 use Rattle.gapped_slices.proofs.spots.spot_of_key.Goals as goal
 
-roomy : (p : goal.Else-not-is_within) → let a = c.args in a.front + a.behind ≤ length a.keys.now
-roomy p = let a = c.args in leb-true (a.front + a.behind) (length a.keys.now) (sym p.is_within.ensures ∙ p.if-not-is_within.false)
+roomy : (p : goal.Else-not-is_within) → let a = p.args in a.front + a.behind ≤ length a.keys.now
+roomy p = let a = p.args in leb-true (a.front + a.behind) (length a.keys.now) (sym p.is_within.ensures ∙ p.if-not-is_within.false)
 
 pub returns-then-not-is_within : goal.returns-then-not-is_within
 returns-then-not-is_within c = let a = c.args in λ w. absurd (omega (arith, w, leb-false (a.front + a.behind) (length a.keys.now) (sym c.is_within.ensures ∙ c.if-not-is_within.true)))

@@ -13,28 +13,28 @@ use Rattle.mmcif.proofs.reading_lines.read_lines.Invariants.{target}
 use Rattle.mmcif.proofs.reading_lines.read_lines.Goals as goal
 
 -- the slices at entry, at the head of the loop, and as a run leaves them
-abbrev entry : tie.Start invariant-loop decreases-loop → Records
+abbrev entry : goal.Start → Records
 entry t = let a = t.args in records_of a.chains.now a.residue-keys.now a.residue-names.now a.residue-marks.now a.atom-keys.now a.atom-names.now a.elements.now a.positions.now a.occupancies.now
 
-abbrev here : tie.At-loop invariant-loop decreases-loop → Records
-here p = let h = p.loop in records_of h.chains h.residue-keys h.residue-names h.residue-marks h.atom-keys h.atom-names h.elements h.positions h.occupancies
+abbrev here : goal.At-loop-settings → Records
+here p = let h = p.loop-settings in records_of h.chains h.residue-keys h.residue-names h.residue-marks h.atom-keys h.atom-names h.elements h.positions h.occupancies
 
-abbrev after : tie.After-take-run invariant-loop decreases-loop → List ℕ → Records
-after p chains = let l = p.take-run.new.1 in records_of chains l.0 l.1.0 l.1.1.0 l.1.1.1.0 l.1.1.1.1.0 l.1.1.1.1.1.0 l.1.1.1.1.1.1.0 l.1.1.1.1.1.1.1.0
+abbrev after : goal.After-take_run-stage → List ℕ → Records
+after p chains = let l = p.take_run-stage.new.residue_keys in records_of chains l p.take_run-stage.new.residue_names p.take_run-stage.new.residue_marks p.take_run-stage.new.atom_keys p.take_run-stage.new.atom_names p.take_run-stage.new.elements p.take_run-stage.new.positions p.take_run-stage.new.occupancies
 
 -- the rows under way, at the head of the loop
-under_way : (c : goal.At-loop-settings invariant-loop decreases-loop) → UnderWay c.args.text.now c.args.settings c.args.room (entry c) (target c) c.loop-settings.stage (here c)
+under_way : (c : goal.At-loop-settings) → UnderWay c.args.text.now c.args.settings c.args.room (entry c) (target c) c.loop-settings.stage (here c)
 under_way c =
     let a = c.args in
     c.loop-settings.invariant (target c) (begins a.text.now a.settings a.room (entry c) a.halt c.first_row-stage.result c.first_row-stage.ensures)
 
 -- ---- a run
-module _ (c : goal.After-slice_known-in-loop-settings-8-1 invariant-loop decreases-loop) where
-  abbrev t : tie.Start invariant-loop decreases-loop
+module _ (c : goal.After-slice_known-in-loop-settings-8-1) where
+  abbrev t : goal.Start
   t = c
-  abbrev p : tie.At-loop invariant-loop decreases-loop
+  abbrev p : goal.At-loop-settings
   p = c
-  abbrev run : tie.After-take-run invariant-loop decreases-loop
+  abbrev run : goal.After-take_run-stage
   run = c
   abbrev place : ℕ
   place = c.chain_place-place.result

@@ -8,7 +8,7 @@ use Rattle.mmcif.proofs.UnderWay.{UnderWay}
 use Rattle.mmcif.proofs.reading_lines.read_lines.Given as goal
 
 -- what is to be reached
-abbrev pub target : tie.Start invariant-loop decreases-loop → Making
+abbrev pub target : goal.Start → Making
 target t = ahead t.args.halt (made t.args.room start (acts_of t.args.settings t.args.text.now))
 
 abbrev pub invariant-loop-settings : goal.invariant-loop-settings

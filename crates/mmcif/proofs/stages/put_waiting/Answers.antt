@@ -9,11 +9,11 @@ use Rattle.mmcif.specs.declared.stages.Waiting.{Waiting}
 use Rattle.mmcif.specs.Stages.{chain_in, PutBy}
 use Rattle.mmcif.proofs.stages.put_waiting.Goals as goal
 
-abbrev entry : tie.Start → List ℕ → Records
+abbrev entry : goal.Start → List ℕ → Records
 entry t chains = let a = t.args in records_of chains a.residue-keys.now a.residue-names.now a.residue-marks.now a.atom-keys.now a.atom-names.now a.elements.now a.positions.now a.occupancies.now
 
-abbrev left : tie.After-keep-site → List ℕ → Records
-left p chains = let l = p.keep-site.new in records_of chains l.0 l.1.0 l.1.1.0 l.1.1.1.0 l.1.1.1.1.0 l.1.1.1.1.1.0 l.1.1.1.1.1.1.0 l.1.1.1.1.1.1.1.0
+abbrev left : goal.After-keep_site → List ℕ → Records
+left p chains = let l = p.keep_site.new in records_of chains l.residue_keys l.residue_names l.residue_marks l.atom_keys l.atom_names l.elements l.positions l.occupancies
 
 pub returns-in-Nothing : goal.returns-in-Nothing
 returns-in-Nothing c =
@@ -38,7 +38,7 @@ pub returns-in-Row : goal.returns-in-Row
 returns-in-Row c =
     let a = c.args in
     let row = c.row-1.given in
-    let site = row.0.1.0 in
+    let site = c.in-Row.site in
     let standing = c.keep_site.result in
     λ chains.
     let after : ℕ → Records = λ name. left c (set chains a.found name) in
@@ -54,5 +54,5 @@ returns-in-Row c =
         positions = c.positions-1.given;
         occupancies = c.occupancies-1.given;
       };
-      puts = subst (λ (w : Waiting). PutBy w a.room a.found a.stage standing (entry c chains) (after (chain_in w))) (sym row.1) (c.keep_site.ensures chains);
+      puts = subst (λ (w : Waiting). PutBy w a.room a.found a.stage standing (entry c chains) (after (chain_in w))) (sym c.in-Row.is) (c.keep_site.ensures chains);
     }

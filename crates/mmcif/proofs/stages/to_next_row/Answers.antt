@@ -20,15 +20,15 @@ use Rattle.mmcif.proofs.StageLaws.{OnTheWay, sets_out, further_on, one_line, row
 use Rattle.mmcif.proofs.stages.to_next_row.Goals as goal
 
 -- the lines of a text that memory holds are counted
-small : (t : goal.Start invariant-loop decreases-loop) → suc (length t.args.text.now) < 2 ^ 64
+small : (t : goal.Start) → suc (length t.args.text.now) < 2 ^ 64
 small t = omega (arith, t.well_formed.0.0, t.well_formed.0.1)
 
-line_here : (c : goal.After-line_from-line invariant-loop decreases-loop) → LineAt c.args.text.now c.loop-at.at c.line_from-line.result
+line_here : (c : goal.After-line_from-line) → LineAt c.args.text.now c.loop-at.at c.line_from-line.result
 line_here c = c.line_from-line.ensures.line c.loop-at-test.true
 
 -- ---- a line whose row does not wait
-module _ (c : goal.After-number_after-number invariant-loop decreases-loop) where
-  abbrev begun : tie.Start invariant-loop decreases-loop
+module _ (c : goal.After-number_after-number) where
+  abbrev begun : goal.Start
   begun = c
   abbrev here : Stage
   here = let h = c.loop-at in stage_at h.at h.number h.heads h.standing
@@ -76,16 +76,16 @@ pub returns-in-Keep : goal.returns-in-Keep
 returns-in-Keep c =
     let h = c.loop-at in
     let row = c.act-1.given in
-    let keeps : (plan_of c.args.settings h.heads _).act ≡ Keep row.0.0 = ap (λ (p : Plan). p.act) (sym c.plan_of-plan.ensures) ∙ row.1 in
+    let keeps : (plan_of c.args.settings h.heads _).act ≡ Keep c.in-Keep.site = ap (λ (p : Plan). p.act) (sym c.plan_of-plan.ensures) ∙ c.in-Keep.is in
     subst (GoesOnTo c.args.text.now c.args.settings (stage_at c.args.from c.args.first c.args.before c.args.so_far))
     (λ i. record {
       at = c.line_from-line.result.next;
       number = sym c.number_after.ensures i;
       heads = (sym c.plan_of-plan.ensures i).heads;
       standing = record { held = h.standing.held; halt = Going };
-      waiting = Row h.number row.0.0;
+      waiting = Row h.number c.in-Keep.site;
     })
-    (row_met c.args.text.now c.args.settings (small c) _ _ h.invariant c.loop-at-test.true c.line_from-line.result (line_here c) (Keep row.0.0) keeps refl)
+    (row_met c.args.text.now c.args.settings (small c) _ _ h.invariant c.loop-at-test.true c.line_from-line.result (line_here c) (Keep c.in-Keep.site) keeps refl)
 
 pub loop-at-smaller : goal.loop-at-smaller
 loop-at-smaller c =

@@ -15,26 +15,26 @@ use Rattle.mmcif.proofs.RunLaws.{none_yet, lengths_so_far, one_row, less, run_ta
 use Rattle.mmcif.proofs.stages.walk.Goals as goal
 
 -- the slices at entry, at the head of the loop, and as a row leaves them
-abbrev entry : tie.Start invariant-loop decreases-loop → List ℕ → Records
+abbrev entry : goal.Start → List ℕ → Records
 entry t chains = let a = t.args in records_of chains a.residue-keys.now a.residue-names.now a.residue-marks.now a.atom-keys.now a.atom-names.now a.elements.now a.positions.now a.occupancies.now
 
-abbrev here : tie.At-loop invariant-loop decreases-loop → List ℕ → Records
-here p chains = let h = p.loop in records_of chains h.residue-keys h.residue-names h.residue-marks h.atom-keys h.atom-names h.elements h.positions h.occupancies
+abbrev here : goal.At-loop-settings → List ℕ → Records
+here p chains = let h = p.loop-settings in records_of chains h.residue-keys h.residue-names h.residue-marks h.atom-keys h.atom-names h.elements h.positions h.occupancies
 
-abbrev after : tie.After-put-waiting invariant-loop decreases-loop → List ℕ → Records
-after p chains = let l = p.put-waiting.new in records_of chains l.0 l.1.0 l.1.1.0 l.1.1.1.0 l.1.1.1.1.0 l.1.1.1.1.1.0 l.1.1.1.1.1.1.0 l.1.1.1.1.1.1.1.0
+abbrev after : goal.After-put_waiting-kept → List ℕ → Records
+after p chains = let l = p.put_waiting-kept.new in records_of chains l.residue_keys l.residue_names l.residue_marks l.atom_keys l.atom_names l.elements l.positions l.occupancies
 
 not_false : (b : Bool) → not b ≡ false → b ≡ true
 not_false true e = refl
 not_false false e = absurd (false≢true (sym e))
 
 -- ---- a turn
-module _ (c : goal.After-is_own-more invariant-loop decreases-loop) where
-  abbrev t : tie.Start invariant-loop decreases-loop
+module _ (c : goal.After-is_own-more) where
+  abbrev t : goal.Start
   t = c
-  abbrev h : tie.At-loop invariant-loop decreases-loop
+  abbrev h : goal.At-loop-settings
   h = c
-  abbrev p : tie.After-put-waiting invariant-loop decreases-loop
+  abbrev p : goal.After-put_waiting-kept
   p = c
   abbrev text : List ℕ
   text = t.args.text.now
@@ -55,7 +55,7 @@ module _ (c : goal.After-is_own-more invariant-loop decreases-loop) where
   lengths : SameLengths (entry t []) (after p [])
   lengths = lengths_so_far text settings t.args.room t.args.place t.args.stage (entry t []) small s (here h []) (h.loop.inv []) kept (after p []) refl (p.put-waiting.ensures []) to goes
 
-more : (c : goal.Else-not-more invariant-loop decreases-loop) → is_own (is_waiting (t c).args.stage.waiting) (to c).waiting (chain_in (t c).args.stage.waiting) ≡ true
+more : (c : goal.Else-not-more) → is_own (is_waiting (t c).args.stage.waiting) (to c).waiting (chain_in (t c).args.stage.waiting) ≡ true
 more c = sym (own c) ∙ not_false c.is_own-more.result c.if-not-more.false-raw
 
 pub loop-settings-init : goal.loop-settings-init

@@ -8,8 +8,8 @@ pub returns-in-Standard : goal.returns-in-Standard
 returns-in-Standard c =
     let r = c.resolved-1.given in
     let a = c.args in
-    (λ i. record { name = r.0.0; code = c.code.ensures i; category = c.code-in-Standard.ensures i })
-    ∙ sym (ap (λ resolved. class_by resolved a.name a.lone) r.1)
+    (λ i. record { name = c.in-Standard.target; code = c.code.ensures i; category = c.code-in-Standard.ensures i })
+    ∙ sym (ap (λ resolved. class_by resolved a.name a.lone) c.in-Standard.is)
 
 pub returns-in-Unresolved : goal.returns-in-Unresolved
 returns-in-Unresolved c =

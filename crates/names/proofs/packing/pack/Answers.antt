@@ -7,8 +7,6 @@ use borrow.Author.Rules.{rules}
 use Rattle.names.proofs.PackingTurns.{onward, onward_first, onward_turn, onward_last, one_more, room}
 use Rattle.names.proofs.packing.pack.Goals as goal
 
-}
-
 pub loop-i-init : goal.loop-i-init
 loop-i-init c = (search rules, (search rules, onward_first c.args.name.now))
 
@@ -20,6 +18,7 @@ overflow_mul-number c =
 pub overflow_add-number : goal.overflow_add-number
 overflow_add-number c = record {
   fits = room c.loop-i.number c.loop-i.i c.byte_at.result c.loop-i.invariant.1.0 (omega arith) (omega arith);
+}
 
 pub loop-i-preserved : goal.loop-i-preserved
 loop-i-preserved c =

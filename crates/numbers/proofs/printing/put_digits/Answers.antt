@@ -6,8 +6,6 @@ use lib.ListN.{length-set}
 use Rattle.numbers.proofs.PrintingLaws.{digits_length, digits_none, digits_turn}
 use Rattle.numbers.proofs.printing.put_digits.Goals as goal
 
-}
-
 pub loop-left-preserved : goal.loop-left-preserved
 loop-left-preserved c =
     let at = c.args.at in
@@ -25,3 +23,4 @@ pub returns : goal.returns
 returns c = record {
   bytes = sym (digits_none c.loop-left.out c.args.at c.loop-left.left c.loop-left.rest (omega arith)) ∙ c.loop-left.invariant.1.1;
   place = ap (λ (k : ℕ). c.args.at + k) (sym (digits_length c.args.count c.args.n));
+}

@@ -35,7 +35,7 @@ fixed_length-length-requires c = rw c.digit_count-count.ensures (digit_count_fit
 pub returns-then-not-fits_at : goal.returns-then-not-fits_at
 returns-then-not-fits_at c =
     let a = c.args in
-    put_nothing a.out.now a.at (text c) (fitting c false c.if-not-fits_at.true)) (long c)
+    put_nothing a.out.now a.at (text c) (fitting c false c.if-not-fits_at.true) (long c)
 
 pub put_parts-requires : goal.put_parts-requires
 put_parts-requires c =

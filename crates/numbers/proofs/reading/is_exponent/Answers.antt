@@ -15,7 +15,7 @@ letter : {b f : ℕ} {r t : Bool} → b ≡ f → r ≡ is_exponent_letter b →
 letter e a k = sym (ap is_exponent_letter e) ∙ sym a ∙ k
 
 pub returns-then-not-is_exponent_letter : goal.returns-then-not-is_exponent_letter
-returns-then-not-is_exponent_letter c = sym (exponent_no c.args.s.now (letter c.byte_at.ensures c.is_exponent_letter.ensures c.if-not-is_exponent_letter.true)))
+returns-then-not-is_exponent_letter c = sym (exponent_no c.args.s.now (letter c.byte_at.ensures c.is_exponent_letter.ensures c.if-not-is_exponent_letter.true))
 
 pub slice_bounds-after_sign-count : goal.slice_bounds-after_sign-count
 slice_bounds-after_sign-count c = letter_some c.args.s.now (letter c.byte_at.ensures c.is_exponent_letter.ensures c.if-not-is_exponent_letter.false)

@@ -16,14 +16,14 @@ returns-then-point-eq0 c = c.read_unsigned.ensures
 pub valued-requires : goal.valued-requires
 valued-requires c =
     let w = c.walk_digits-whole in
-    (lt_of_lt_of_le w.ensures.1.1.0 (ten_fits w.result.end (le_trans w.ensures.1.1.1 c.requires)), omega arith)
+    (lt_of_lt_of_le w.ensures.number_bound.0 (ten_fits w.result.end (le_trans w.ensures.number_bound.1 c.requires)), omega arith)
 
 pub returns-then-point-s : goal.returns-then-point-s
 returns-then-point-s c =
     let a = c.args in
     let w = c.walk_digits-whole in
     c.valued.ensures
-    ∙ short_whole a.negative a.s.now c.requires w.result.number w.result.end w.ensures.0 w.ensures.1.0 c.if-point-eq0.false c.if-point-s.true
+    ∙ short_whole a.negative a.s.now c.requires w.result.number w.result.end w.ensures.number_value w.ensures.end_value c.if-point-eq0.false c.if-point-s.true
 
 pub returns-then-s-point-ne46 : goal.returns-then-s-point-ne46
 returns-then-s-point-ne46 c = c.read_unsigned-then-s-point-ne46.ensures
@@ -31,7 +31,7 @@ returns-then-s-point-ne46 c = c.read_unsigned-then-s-point-ne46.ensures
 pub walk_digits-all-requires : goal.walk_digits-all-requires
 walk_digits-all-requires c =
     let w = c.walk_digits-whole in
-    (omega arith, (c.requires, lt_of_lt_of_le w.ensures.1.1.0 (ten_grows w.result.end _ (omega arith))))
+    (omega arith, (c.requires, lt_of_lt_of_le w.ensures.number_bound.0 (ten_grows w.result.end _ (omega arith))))
 
 pub returns-then-all-s : goal.returns-then-all-s
 returns-then-all-s c = c.read_unsigned-then-all-s.ensures
@@ -39,7 +39,7 @@ returns-then-all-s c = c.read_unsigned-then-all-s.ensures
 pub valued-requires-2 : goal.valued-requires-2
 valued-requires-2 c =
     let w = c.walk_digits-all in
-    (lt_of_lt_of_le w.ensures.1.1.0 (ten_fits w.result.end (le_trans w.ensures.1.1.1 c.requires)), omega arith)
+    (lt_of_lt_of_le w.ensures.number_bound.0 (ten_fits w.result.end (le_trans w.ensures.number_bound.1 c.requires)), omega arith)
 
 pub returns : goal.returns
 returns c =
@@ -47,5 +47,5 @@ returns c =
     let w = c.walk_digits-whole in
     let all = c.walk_digits-all in
     c.valued-2.ensures
-    ∙ short_pointed a.negative a.s.now c.requires w.result.number w.result.end w.ensures.0 w.ensures.1.0
-    c.if-point-eq0.false all.result.number all.result.end (omega arith) c.if-s-point-ne46.false all.ensures.0 all.ensures.1.0 c.if-all-s.false
+    ∙ short_pointed a.negative a.s.now c.requires w.result.number w.result.end w.ensures.number_value w.ensures.end_value
+    c.if-point-eq0.false all.result.number all.result.end (omega arith) c.if-s-point-ne46.false all.ensures.number_value all.ensures.end_value c.if-all-s.false

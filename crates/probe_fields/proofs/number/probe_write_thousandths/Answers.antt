@@ -6,4 +6,4 @@ use Rattle.probe_fields.proofs.number.probe_write_thousandths.Goals as goal
 pub returns : goal.returns
 returns c =
     let answer = c.write_thousandths-p.ensures in
-    ((c.outcome.ensures ∙ ap outcome_of answer.0, answer.1), c.amount.ensures ∙ ap amount_of answer.0)
+    record { written = (c.outcome.ensures ∙ ap outcome_of answer.0, answer.1); told = c.amount.ensures ∙ ap amount_of answer.0 }

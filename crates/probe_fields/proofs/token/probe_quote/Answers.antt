@@ -6,4 +6,4 @@ use Rattle.probe_fields.proofs.token.probe_quote.Goals as goal
 pub returns : goal.returns
 returns c =
     let answer = c.quote_string-p.ensures in
-    ((c.outcome_of_placed.ensures ∙ ap outcome_of_placed answer.0, answer.1), c.amount_of_placed.ensures ∙ ap amount_of_placed answer.0)
+    record { written = (c.outcome_of_placed.ensures ∙ ap outcome_of_placed answer.0, answer.1); told = c.amount_of_placed.ensures ∙ ap amount_of_placed answer.0 }

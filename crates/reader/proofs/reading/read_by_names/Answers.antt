@@ -10,7 +10,7 @@ use Rattle.mmcif.specs.Acts.{acts_of}
 use Rattle.reader.proofs.RowsAreSound.{acts_are_sound}
 use Rattle.reader.proofs.reading.read_by_names.Goals as goal
 
-abbrev entry : tie.Start → Lent
+abbrev entry : goal.Start → Lent
 entry s = record {
   chains = s.args.chains.now;
   residue_keys = s.args.residue-keys.now;
@@ -23,7 +23,6 @@ entry s = record {
   elements = s.args.elements.now;
   positions = s.args.positions.now;
   occupancies = s.args.occupancies.now;
-
 }
 
 pub returns : goal.returns
@@ -33,7 +32,7 @@ returns c =
     let m = c.room_of-room in
     let k = c.close-answer in
     let a = c.args in
-    let names = c.read_lines-standing.new.residue_names in
+    let names = c.read_lines-standing.new.residue_keys in
     let whole =
     read_whole a.text.now (acts_of a.settings a.text.now) (acts_are_sound a.settings a.text.now) (entry c) _ _ m.result h.result l.result _
     (m.ensures a.chains.now refl) h.ensures l.ensures refl refl (k.ensures names) in

@@ -13,7 +13,7 @@ use Rattle.readings.specs.Reading.{answer_of, left_by}
 use Rattle.readings.proofs.EndOfReading.{refused_stays, finished_ends, finished_leaves}
 use Rattle.readings.proofs.closing.close.Goals as goal
 
-abbrev entry : tie.Start → List ℕ → Lent
+abbrev entry : goal.Start → List ℕ → Lent
 entry s names = record {
   chains = names;
   residue_keys = s.args.residue-keys.now;
@@ -26,10 +26,9 @@ entry s names = record {
   elements = s.args.elements.now;
   positions = s.args.positions.now;
   occupancies = s.args.occupancies.now;
-
 }
 
-abbrev gathered : tie.Start → tie.After-gather → List ℕ → Lent
+abbrev gathered : goal.Start → goal.After-gather → List ℕ → Lent
 gathered s c names = let l = c.gather.new in record {
   chains = names;
   residue_keys = l.0;
@@ -42,7 +41,6 @@ gathered s c names = let l = c.gather.new in record {
   elements = l.1.1.1.1.1.0;
   positions = l.1.1.1.1.1.1.0;
   occupancies = l.1.1.1.1.1.1.1.0;
-
 }
 
 pub returns-in-Refused : goal.returns-in-Refused

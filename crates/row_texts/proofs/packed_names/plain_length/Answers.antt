@@ -9,7 +9,7 @@ use Rattle.row_texts.proofs.PlainNames.{plain_turn, plain_last}
 use Rattle.row_texts.proofs.packed_names.plain_length.Goals as goal
 
 -- the rest loses a byte
-less : (c : goal.After-after_first-rest invariant-loop decreases-loop) → length (unpacked c.loop-rest.rest) ≡ suc (length (unpacked c.after_first-rest.result))
+less : (c : goal.After-after_first-rest) → length (unpacked c.loop-rest.rest) ≡ suc (length (unpacked c.after_first-rest.result))
 less c = one_less c.loop-rest.rest c.after_first-rest.result c.loop-rest-test.true c.after_first-rest.ensures
 
 pub loop-rest-init : goal.loop-rest-init

@@ -8,6 +8,6 @@ returns c =
     let a = c.args in
     c.fields_in.ensures a.line.now
     (record {
-      many = split.ensures.0;
-      tokens = λ k h. rw (split.ensures.0, split.ensures.1.0, split.ensures.1.1) (in_room a.line.now a.cell.now a.places.now c.requires.0 c.requires.1 k h);
+      many = split.ensures.value;
+      tokens = λ k h. rw (split.ensures.value, split.ensures.cell_after, split.ensures.places_after) (in_room a.line.now a.cell.now a.places.now c.requires.0 c.requires.1 k h);
     })

@@ -6,7 +6,7 @@ use Rattle.readings.proofs.SlicesOfOneSize.{same_holding}
 use Rattle.service.proofs.ServingLaws.{read_well, serve_unread, serve_read}
 use Rattle.service.proofs.serving.serve.Goals as goal
 
-abbrev entry : tie.Start → Lent
+abbrev entry : goal.Start → Lent
 entry s =
     lent_of
     s.args.chains.now
@@ -22,44 +22,44 @@ entry s =
     s.args.occupancies.now
 
 -- the slices as the reading leaves them
-abbrev left : tie.After-read-by-names → Lent
+abbrev left : goal.After-read_by_names-answer → Lent
 left p =
-    let l = p.read-by-names.new.1 in
+    let l = p.read_by_names-answer.new.chains in
     lent_of
-    l.0
-    l.1.0
-    l.1.1.0
-    l.1.1.1.0
-    l.1.1.1.1.0
-    l.1.1.1.1.1.0
-    l.1.1.1.1.1.1.0
-    l.1.1.1.1.1.1.1.0
-    l.1.1.1.1.1.1.1.1.0
-    l.1.1.1.1.1.1.1.1.1.0
-    l.1.1.1.1.1.1.1.1.1.1.0
+    l
+    p.read_by_names-answer.new.residue_keys
+    p.read_by_names-answer.new.residue_names
+    p.read_by_names-answer.new.residue_codes
+    p.read_by_names-answer.new.residue_categories
+    p.read_by_names-answer.new.residue_positions
+    p.read_by_names-answer.new.atom_keys
+    p.read_by_names-answer.new.atom_names
+    p.read_by_names-answer.new.elements
+    p.read_by_names-answer.new.positions
+    p.read_by_names-answer.new.occupancies
 
 -- and as the writing leaves them
-abbrev written : tie.After-write-out → Lent
+abbrev written : goal.After-write_out → Lent
 written p =
-    let l = p.write-out.new.1 in
+    let l = p.write_out.new.chains in
     lent_of
-    l.0
-    l.1.0
-    l.1.1.0
-    l.1.1.1.0
-    l.1.1.1.1.0
-    l.1.1.1.1.1.0
-    l.1.1.1.1.1.1.0
-    l.1.1.1.1.1.1.1.0
-    l.1.1.1.1.1.1.1.1.0
-    l.1.1.1.1.1.1.1.1.1.0
-    l.1.1.1.1.1.1.1.1.1.1.0
+    l
+    p.write_out.new.residue_keys
+    p.write_out.new.residue_names
+    p.write_out.new.residue_codes
+    p.write_out.new.residue_categories
+    p.write_out.new.residue_positions
+    p.write_out.new.atom_keys
+    p.write_out.new.atom_names
+    p.write_out.new.elements
+    p.write_out.new.positions
+    p.write_out.new.occupancies
 
 pub write_out-requires : goal.write_out-requires
 write_out-requires c =
     let answer = c.answer-in-Read-1.given in
     let r = c.read_by_names-answer in
-    read_well c.args.settings (entry c) c.args.text.now answer.0.0 (left c) (sym answer.1 ∙ r.ensures.0) r.ensures.1
+    read_well c.args.settings (entry c) c.args.text.now c.in-Read.counts (left c) (sym c.in-Read.is ∙ r.ensures.0) r.ensures.1
 
 pub returns-in-Refused : goal.returns-in-Refused
 returns-in-Refused c =

@@ -11,7 +11,7 @@ use Rattle.finishing.proofs.GivenBack.{given_back}
 use Rattle.service.proofs.ServingLaws.{put_out, put_nothing}
 use Rattle.service.proofs.serving.write_out.Goals as goal
 
-abbrev entry : tie.Start → Lent
+abbrev entry : goal.Start → Lent
 entry s =
     lent_of
     s.args.chains.now

@@ -12,7 +12,7 @@ use Rattle.structures.proofs.FrontLaws.{lent_front}
 use Rattle.structure_intake.proofs.CallLaws.{called, not_called}
 use Rattle.structure_intake.proofs.calls.call_first.Goals as goal
 
-abbrev entry : tie.Start → List ℕ → Lent
+abbrev entry : goal.Start → List ℕ → Lent
 entry s names =
     lent_of
     names
@@ -28,21 +28,21 @@ entry s names =
     s.args.occupancies.now
 
 -- the slices as the service leaves them, with these names
-abbrev left : tie.After-serve → List ℕ → Lent
+abbrev left : goal.After-serve-answer → List ℕ → Lent
 left p names =
-    let l = p.serve.new.1.1.1 in
+    let l = p.serve-answer.new.residue_keys in
     lent_of
     names
-    l.0
-    l.1.0
-    l.1.1.0
-    l.1.1.1.0
-    l.1.1.1.1.0
-    l.1.1.1.1.1.0
-    l.1.1.1.1.1.1.0
-    l.1.1.1.1.1.1.1.0
-    l.1.1.1.1.1.1.1.1.0
-    l.1.1.1.1.1.1.1.1.1.0
+    l
+    p.serve-answer.new.residue_names
+    p.serve-answer.new.residue_codes
+    p.serve-answer.new.residue_categories
+    p.serve-answer.new.residue_positions
+    p.serve-answer.new.atom_keys
+    p.serve-answer.new.atom_names
+    p.serve-answer.new.elements
+    p.serve-answer.new.positions
+    p.serve-answer.new.occupancies
 
 pub returns-then-not-is_whole : goal.returns-then-not-is_whole
 returns-then-not-is_whole c =
@@ -60,9 +60,9 @@ slice_bounds-serve-end c = c.requires
 pub returns : goal.returns
 returns c =
     let settings = c.assuming in
-    let l = c.serve-answer.new.chains in
+    let l = c.serve-answer.new.out in
     let names = c.args.names.now in
-    let front = lent_front (λ before after. Serves settings.result (entry c before) c.args.text.now c.args.out.now c.serve-answer.result (left c after) l.0) c.args.size names l.1.0 c.requires c.names-1.given.0 c.serve-answer.ensures in
+    let front = lent_front (λ before after. Serves settings.result (entry c before) c.args.text.now c.args.out.now c.serve-answer.result (left c after) l) c.args.size names c.serve-answer.new.chains c.requires c.names-1.given.0 c.serve-answer.ensures in
     let whole = sym c.is_whole.ensures ∙ c.if-not-is_whole.false in
     called c.args.text.now c.args.out.now c.args.res.now settings.result settings.ensures (entry c (take c.args.size names)) _ _ _ _ _ whole
     front

@@ -8,7 +8,7 @@ use Rattle.structures.proofs.FrontLaws.{kept_front}
 use Rattle.structure_intake.specs.Calls.{Calls}
 use Rattle.structure_intake.proofs.calls.call_into.Goals as goal
 
-abbrev entry : tie.Start → List ℕ → Lent
+abbrev entry : goal.Start → List ℕ → Lent
 entry s names =
     lent_of
     names
@@ -24,27 +24,27 @@ entry s names =
     s.args.occupancies.now
 
 -- the slices as the call leaves them, with these names
-abbrev left : tie.After-call-first → List ℕ → Lent
+abbrev left : goal.After-call_first → List ℕ → Lent
 left p names =
-    let l = p.call-first.new.1.1.1.1.1 in
+    let l = p.call_first.new.residue_names in
     lent_of
     names
-    l.0
-    l.1.0
-    l.1.1.0
-    l.1.1.1.0
-    l.1.1.1.1.0
-    l.1.1.1.1.1.0
-    l.1.1.1.1.1.1.0
-    l.1.1.1.1.1.1.1.0
-    l.1.1.1.1.1.1.1.1.0
-    l.1.1.1.1.1.1.1.1.1.0
+    l
+    p.call_first.new.residue_codes
+    p.call_first.new.residue_categories
+    p.call_first.new.residue_positions
+    p.call_first.new.atom_keys
+    p.call_first.new.atom_names
+    p.call_first.new.elements
+    p.call_first.new.positions
+    p.call_first.new.occupancies
+    p.call_first.new.1.1.1.1.1.1.1.1.1.1.1.1.1.1.0
 
 pub call_first-requires : goal.call_first-requires
 call_first-requires c = omega (arith, c.kept-size.ensures, c.call_first-arg-3-1.given.0.1)
 
 pub returns : goal.returns
 returns c =
-    let l = c.call_first.new.res in
-    kept_front (λ before after. Calls (entry c before) c.args.text.now c.args.out.now c.args.res.now c.call_first.result (left c after) l.0 l.1.0)
-    c.args.size c.kept-size.result c.args.names.now l.1.1.0 c.kept-size.ensures c.call_first-arg-3-1.given.0.1 c.call_first.auto.1.1.1.0 c.call_first.ensures
+    let l = c.call_first.new.out in
+    kept_front (λ before after. Calls (entry c before) c.args.text.now c.args.out.now c.args.res.now c.call_first.result (left c after) l c.call_first.new.res)
+    c.args.size c.kept-size.result c.args.names.now c.call_first.new.names c.kept-size.ensures c.call_first-arg-3-1.given.0.1 c.call_first.auto.1.1.1.0 c.call_first.ensures

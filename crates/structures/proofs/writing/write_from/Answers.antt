@@ -9,7 +9,7 @@ use Rattle.writer.specs.Writing.{write_of, Wrote}
 use Rattle.structures.proofs.FrontLaws.{kept_part}
 use Rattle.structures.proofs.writing.write_from.Goals as goal
 
-abbrev entry : tie.Start → List ℕ → Lent
+abbrev entry : goal.Start → List ℕ → Lent
 entry s names =
     lent_of
     names

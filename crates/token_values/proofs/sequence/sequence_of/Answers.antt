@@ -17,7 +17,7 @@ number : (c : goal.After-number_from-n) → c.number_from-n.result ≡ capped (n
 number c = c.number_from-n.ensures ∙ ap (λ (s : List ℕ). capped (number_from 0 s)) c.after_sign-digits.ensures
 
 pub returns-then-not-all_digits : goal.returns-then-not-all_digits
-returns-then-not-all_digits c = sym (no_decimal c.args.token.now (tested c _ c.if-not-all_digits.true)))
+returns-then-not-all_digits c = sym (no_decimal c.args.token.now (tested c _ c.if-not-all_digits.true))
 
 pub returns-then-byte_at-eq45 : goal.returns-then-byte_at-eq45
 returns-then-byte_at-eq45 c =

@@ -9,11 +9,11 @@ use Rattle.ascii.specs.Output.{Stored}
 use Rattle.ascii.proofs.OutputLaws.{after_fits, stored_byte, stored_append}
 use Rattle.tokens.proofs.quote.put_in_quotes.Goals as goal
 
-long : (c : goal.After-put_text) → length c.put_text.new.1.0 ≡ length c.args.out.now
+long : (c : goal.After-put_text) → length c.put_text.new.out ≡ length c.args.out.now
 long c = c.put_text.auto.1.0 ∙ simp length-set
 
 -- the name stands behind the first quote
-named : (c : goal.After-put_text) → let a = c.args in Stored (set a.out.now a.at a.q) (a.at + 1) a.name.now c.put_text.new.1.0 (a.at + 1 + length a.name.now)
+named : (c : goal.After-put_text) → let a = c.args in Stored (set a.out.now a.at a.q) (a.at + 1) a.name.now c.put_text.new.out (a.at + 1 + length a.name.now)
 named c =
     let a = c.args in
     let quoted = set a.out.now a.at a.q in
@@ -29,4 +29,4 @@ pub returns : goal.returns
 returns c =
     let a = c.args in
     let t = c.put_text in
-    stored_append (stored_byte a.out.now a.at a.q) (stored_append (named c) (stored_byte t.new.1.0 (a.at + 1 + length a.name.now) a.q))
+    stored_append (stored_byte a.out.now a.at a.q) (stored_append (named c) (stored_byte t.new.out (a.at + 1 + length a.name.now) a.q))

@@ -13,10 +13,4 @@ pub returns : goal.returns
 returns c =
     let a = c.args in
     let t = c.split_text.ensures in
-    let e = ap tokens_from c.content_of.ensures ∙ content_tokens a.line.now in (
-      t.0 ∙ ap length e,
-      (
-        t.1.0 ∙ ap (λ (ts : List (List ℕ)). sets a.cell.now 0 (joined ts)) e,
-        t.1.1 ∙ ap (λ (ts : List (List ℕ)). sets a.places.now 0 (places_from 0 ts)) e,
-      ),
-    )
+    let e = ap tokens_from c.content_of.ensures ∙ content_tokens a.line.now in record { value = t.value ∙ ap length e; cell_after = t.cell_after ∙ ap (λ (ts : List (List ℕ)). sets a.cell.now 0 (joined ts)) e; places_after = t.places_after ∙ ap (λ (ts : List (List ℕ)). sets a.places.now 0 (places_from 0 ts)) e }

@@ -23,7 +23,7 @@ pub loop-w-smaller : goal.loop-w-smaller
 loop-w-smaller c =
     let l = c.loop-w in
     let e = c.take_byte-w.ensures in
-    omega (arith, c.loop-w-test.true, ap (λ (w : Split). w.at) e.0, (byte_ordered l.w l.invariant.1 (act_in l.w (get_or c.args.text.now l.w.at 0))).1)
+    omega (arith, c.loop-w-test.true, ap (λ (w : Split). w.at) e.value, (byte_ordered l.w l.invariant.1 (act_in l.w (get_or c.args.text.now l.w.at 0))).1)
 
 pub loop-w-preserved : goal.loop-w-preserved
 loop-w-preserved c =
@@ -31,7 +31,7 @@ loop-w-preserved c =
     let t = c.take_byte-w.ensures in
     let less = c.loop-w-test.true in
     let o = byte_ordered l.w l.invariant.1 (act_in l.w (get_or c.args.text.now l.w.at 0)) in
-    rw (t.0, t.1.0, t.1.1) (omega (arith, less, o.1), o.0, byte_copied _ _ _ l.w l.cell l.places l.invariant.2 less (act_in l.w (get_or c.args.text.now l.w.at 0)) refl)
+    rw (t.value, t.cell_after, t.places_after) (omega (arith, less, o.1), o.0, byte_copied _ _ _ l.w l.cell l.places l.invariant.2 less (act_in l.w (get_or c.args.text.now l.w.at 0)) refl)
 
 pub end_token-last-requires : goal.end_token-last-requires
 end_token-last-requires c = c.loop-w.invariant.1
@@ -42,10 +42,7 @@ returns c =
     let e = c.end_token-last.ensures in
     let text = c.args.text.now in
     let places = c.args.places.now in
-    let all = all_copied text _ _ l.w l.cell l.places l.invariant.2 c.loop-w-test.false in (
-      ap (λ (w : Split). w.count) e.0 ∙ all.0,
-      (all.1, e.1 ∙ all.2 ∙ ap (λ (p : List ℕ). sets p 0 (places_from 0 (tokens_from text))) c.store_place.ensures ∙ first_place_lem places (tokens_from text)),
-    )
+    let all = all_copied text _ _ l.w l.cell l.places l.invariant.2 c.loop-w-test.false in record { value = ap (λ (w : Split). w.count) e.0 ∙ all.0; cell_after = all.1; places_after = e.1 ∙ all.2 ∙ ap (λ (p : List ℕ). sets p 0 (places_from 0 (tokens_from text))) c.store_place.ensures ∙ first_place_lem places (tokens_from text) }
 
 pub returns : goal.returns
 returns c = returns c

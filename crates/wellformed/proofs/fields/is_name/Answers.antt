@@ -8,7 +8,7 @@ use Rattle.wellformed.proofs.NameLaws.{bytes_on, bytes_fail, bytes_end, no_byte,
 use Rattle.wellformed.proofs.fields.is_name.Goals as goal
 
 -- what was tested is the first byte of what is left
-tested : (c : goal.After-is_text_byte invariant-loop decreases-loop) → is_text_byte (first (unpacked c.loop-rest.rest)) ≡ c.is_text_byte.result
+tested : (c : goal.After-is_text_byte) → is_text_byte (first (unpacked c.loop-rest.rest)) ≡ c.is_text_byte.result
 tested c = sym (c.is_text_byte.ensures ∙ ap is_text_byte c.first_byte.ensures)
 
 pub returns-then-name-eq0 : goal.returns-then-name-eq0

@@ -6,8 +6,8 @@ use Rattle.model.specs.declared.classes.Class.{Class}
 use Rattle.wellformed.specs.Walks.{same_class}
 use Rattle.wellformed.proofs.residues.is_classed.Goals as goal
 
-abbrev given : tie.After-class-of → Class
-given k = record { name = k.before.args.name; code = k.before.args.code; category = k.before.args.category }
+abbrev given : goal.After-class_of-ruled → Class
+given k = record { name = k.args.name; code = k.args.code; category = k.args.category }
 
 pub returns-then-name-ruled : goal.returns-then-name-ruled
 returns-then-name-ruled c =

@@ -7,7 +7,7 @@ use Rattle.model.specs.WellFormed.{within, counts_fit}
 use Rattle.wellformed.proofs.WholeModel.{within_all, not_counted, all_tested}
 use Rattle.wellformed.proofs.whole.is_well_formed.Goals as goal
 
-abbrev lent : tie.Start → Lent
+abbrev lent : goal.Start → Lent
 lent s =
     lent_of
     s.args.chains.now
@@ -22,8 +22,8 @@ lent s =
     s.args.positions.now
     s.args.occupancies.now
 
-abbrev start : tie.After-is-within → tie.Start
-start k = k.before.before.before.before.before.before.before.before.before.before.before.before
+abbrev start : goal.After-is_within → goal.Start
+start k = k
 
 counted : (k : goal.After-is_within) → k.is_within.result ≡ counts_fit (lent (start k)) (start k).args.counts
 unfolding counts_fit

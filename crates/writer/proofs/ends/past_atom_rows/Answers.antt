@@ -8,7 +8,7 @@ use Rattle.writer.proofs.EndsLaws.{nothing_ends, ends_then}
 use Rattle.writer.proofs.ends.past_atom_rows.Goals as goal
 
 -- the slices at entry
-abbrev lent : tie.Start invariant-loop decreases-loop → Lent
+abbrev lent : goal.Start → Lent
 lent s =
     lent_of
     s.args.chains.now
@@ -23,8 +23,8 @@ lent s =
     s.args.positions.now
     s.args.occupancies.now
 
-abbrev start : tie.At-loop invariant-loop decreases-loop → tie.Start invariant-loop decreases-loop
-start p = p.before.before.before.before.before.before.before.before.before.before.before.before
+abbrev start : goal.At-loop-i → goal.Start
+start p = p
 
 pub loop-i-init : goal.loop-i-init
 loop-i-init c =

@@ -16,14 +16,14 @@ use Rattle.writer.proofs.NumberWalk.{alone}
 use Rattle.writer.proofs.PolymerList.{rows_none, rows_some, list_some}
 use Rattle.writer.proofs.ends.past_polymer_list.Goals as goal
 
-abbrev residue : tie.Start → ℕ → ResidueRecord
+abbrev residue : goal.Start → ℕ → ResidueRecord
 residue s = residue_from s.args.keys.now s.args.names.now s.args.codes.now s.args.categories.now s.args.positions.now
 
-abbrev all : tie.Start → List ResidueRecord
+abbrev all : goal.Start → List ResidueRecord
 all s = list_from (residue s) 0 s.args.n
 
-abbrev start : tie.After-has-polymers → tie.Start
-start p = p.before.before.before.before.before.before
+abbrev start : goal.After-has_polymers → goal.Start
+start p = p
 
 -- the test is of every residue
 tested : (p : goal.After-has_polymers) → p.has_polymers.result ≡ any is_polymer (map (λ r. r.code) (all (start p)))

@@ -14,11 +14,11 @@ use Rattle.writer.proofs.PolymerRows.{polymers_begin, polymers_go, polymers_end}
 use Rattle.writer.proofs.polymers.put_polymer_rows.Goals as goal
 
 -- the residues at entry
-abbrev residue : tie.Start invariant-loop decreases-loop → ℕ → ResidueRecord
+abbrev residue : goal.Start → ℕ → ResidueRecord
 residue s = residue_from s.args.keys.now s.args.names.now s.args.codes.now s.args.categories.now s.args.positions.now
 
-abbrev start : tie.At-loop invariant-loop decreases-loop → tie.Start invariant-loop decreases-loop
-start p = p.before.before.before.before.before.before.before
+abbrev start : goal.At-loop-i → goal.Start
+start p = p
 
 pub loop-i-init : goal.loop-i-init
 loop-i-init c =

@@ -16,7 +16,7 @@ use Rattle.writer.proofs.WalkBounds.{Bounded, bounded_first, bounded_next}
 use Rattle.writer.proofs.unwritable.first_unwritable.Goals as goal
 
 -- the slices at entry
-abbrev lent : tie.Start invariant-loop decreases-loop → Lent
+abbrev lent : goal.Start → Lent
 lent s =
     lent_of
     s.args.chains.now
@@ -31,18 +31,18 @@ lent s =
     s.args.positions.now
     s.args.occupancies.now
 
-abbrev start : tie.At-loop invariant-loop decreases-loop → tie.Start invariant-loop decreases-loop
-start p = p.before.before.before.before.before.before.before.before.before.before.before.before
+abbrev start : goal.At-loop-i → goal.Start
+start p = p
 
-one_more : (s : goal.Start invariant-loop decreases-loop) {i : ℕ} → i < s.args.counts.atoms → i + 1 < 2 ^ 64
+one_more : (s : goal.Start) {i : ℕ} → i < s.args.counts.atoms → i + 1 < 2 ^ 64
 one_more s h = omega (arith, s.requires.1)
 
 nearer : {n i : ℕ} → i < n → n - (i + 1) < n - i
 nearer h = omega arith
 
 -- what is answered of the atom that the walk has come to
-module _ (p : goal.After-is_unwritable invariant-loop decreases-loop) where
-  abbrev s : tie.Start invariant-loop decreases-loop
+module _ (p : goal.After-is_unwritable) where
+  abbrev s : goal.Start
   s = start p
   abbrev at : ℕ
   at = p.loop-i.i

@@ -12,7 +12,7 @@ use Rattle.writer.proofs.RowsJoined.{polymers_by_residues}
 use Rattle.writer.proofs.WellFormedParts.{ascending}
 use Rattle.writer.proofs.writing.put_text.Goals as goal
 
-abbrev lent : tie.Start → Lent
+abbrev lent : goal.Start → Lent
 lent s =
     lent_of
     s.args.chains.now
@@ -27,7 +27,7 @@ lent s =
     s.args.positions.now
     s.args.occupancies.now
 
-abbrev model : tie.Start → Model
+abbrev model : goal.Start → Model
 model s = model_in (lent s) s.args.counts
 
 pub returns : goal.returns

@@ -5,7 +5,7 @@ use Rattle.model.specs.Lent.{Lent, lent_of}
 use Rattle.writer.proofs.WritingLaws.{not_well_formed}
 use Rattle.writer.proofs.writing.write_by_names.Goals as goal
 
-abbrev lent : tie.Start → Lent
+abbrev lent : goal.Start → Lent
 lent s =
     lent_of
     s.args.chains.now
@@ -20,8 +20,8 @@ lent s =
     s.args.positions.now
     s.args.occupancies.now
 
-abbrev start : tie.After-is-well-formed → tie.Start
-start p = p.before.before.before.before.before.before.before.before.before.before.before.before
+abbrev start : goal.After-is_well_formed → goal.Start
+start p = p
 
 pub returns-then-is_well_formed : goal.returns-then-is_well_formed
 returns-then-is_well_formed c =

@@ -14,7 +14,7 @@ use Rattle.writer.proofs.TextIsShort.{text_short}
 use Rattle.writer.proofs.WritingLaws.{too_short, all_written}
 use Rattle.writer.proofs.writing.write_fitting.Goals as goal
 
-abbrev lent : tie.Start → Lent
+abbrev lent : goal.Start → Lent
 lent s =
     lent_of
     s.args.chains.now
@@ -29,12 +29,12 @@ lent s =
     s.args.positions.now
     s.args.occupancies.now
 
-abbrev model : tie.Start → Model
+abbrev model : goal.Start → Model
 model s = model_in (lent s) s.args.counts
 
 -- what is told
 module _ (p : goal.After-past_text-needed) where
-  abbrev s : tie.Start
+  abbrev s : goal.Start
   s = p
   abbrev text : List ℕ
   text = text_of (model s)

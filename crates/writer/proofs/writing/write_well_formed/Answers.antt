@@ -5,7 +5,7 @@ use Rattle.model.specs.Lent.{Lent, lent_of}
 use Rattle.writer.proofs.WellFormedParts.{counted, few_atoms}
 use Rattle.writer.proofs.writing.write_well_formed.Goals as goal
 
-abbrev lent : tie.Start → Lent
+abbrev lent : goal.Start → Lent
 lent s =
     lent_of
     s.args.chains.now

@@ -9,7 +9,7 @@ use Rattle.writer.specs.declared.answers.Answer.{Answer}
 use Rattle.writer.proofs.WritingLaws.{unwritable, writable, well_formed_lem}
 use Rattle.writer.proofs.writing.write_writable.Goals as goal
 
-abbrev lent : tie.Start → Lent
+abbrev lent : goal.Start → Lent
 lent s =
     lent_of
     s.args.chains.now
@@ -24,7 +24,7 @@ lent s =
     s.args.positions.now
     s.args.occupancies.now
 
-abbrev model : tie.Start → Model
+abbrev model : goal.Start → Model
 model s = model_in (lent s) s.args.counts
 
 pub returns-then-atom-ne0 : goal.returns-then-atom-ne0
