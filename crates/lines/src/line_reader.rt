@@ -1,5 +1,4 @@
-// The line reader: a lent text and a place in it. The borrow checker covers no function over a struct that holds a slice,
-// so all three are proved by hand. The work is `line_at`'s, and a caller of `line_from` needs no walk.
+// The line reader: a lent text and a place in it. The work is `line_at`'s.
 ghost use Rattle.std.specs.Prelude.{◌≡◌};
 ghost use Rattle.lines.specs.Lines.{LineOrEnd};
 

@@ -1,6 +1,6 @@
 -- While every byte passed is allowed, the first one outside is the first one outside of what is left, whose line is counted.
 use mathlib.Core.Path.{sym, ap, ◌∙◌}
-use Prim.Native.Nat.{ℕ, ◌+◌, ◌-◌}
+use Prim.Native.Nat.{ℕ, ◌+◌}
 use native.Mathlib.Omega.{arith}
 use lib.ListN.{get_or, drop}
 use Rattle.lines.specs.Domain.{outside_from}

@@ -1,6 +1,6 @@
 -- The place of the first 10 is the i bytes passed and its place in what is left: any other byte moves one over, a 10 or the end leaves none.
 use mathlib.Core.Path.{◌≡◌}
-use Prim.Native.Nat.{suc, ◌+◌, ◌-◌}
+use Prim.Native.Nat.{suc, ◌+◌}
 use native.Mathlib.Omega.{arith}
 use lib.ListN.{drop}
 use Rattle.lines.specs.Lines.{feed_place}

@@ -1,12 +1,12 @@
 -- The greatest mark of the bytes passed is kept, and after the last byte, the block's 16th, it tells of all.
 use mathlib.Core.Path.{sym, subst}
-use mathlib.Core.Logic.{⊎_elim}
-use Prim.Native.Nat.{ℕ, ◌+◌, ◌-◌, ◌<◌}
+use Prim.Native.Nat.{ℕ, ◌+◌, ◌<◌}
 use native.Mathlib.Omega.{arith}
 use lib.ListN.{length}
 use Rattle.lines.specs.Lines.{is_no_feed}
 use Rattle.lines.proofs.MarkLaws.{MarkedTo, greater_mark, smaller_mark, all_marked}
 use Rattle.lines.proofs.lines.has_no_feed.Goals as goal
+use Rattle.lines.proofs.lines.has_no_feed.Goals.{then-most-mark, else-most-mark}
 
 pub loop-i-preserved : goal.loop-i-preserved
 loop-i-preserved c =
@@ -15,10 +15,10 @@ loop-i-preserved c =
     let begins : l.i < length block = omega arith in
     let mark = c.feed_mark-mark.ensures in
     let known : ℕ → Type 0 = MarkedTo is_no_feed block (l.i + 1) in
-    ⊎_elim
-    (λ w. subst known (sym w.1) (greater_mark is_no_feed block l.i begins mark l.invariant w.0.taken))
-    (λ w. subst known (sym w.1) (smaller_mark is_no_feed block l.i begins mark l.invariant w.0.left))
-    c.if-most-mark.branch
+    elim c.if-most-mark.branch [
+      | then-most-mark w ↦ subst known (sym w.most-is) (greater_mark is_no_feed block l.i begins mark l.invariant w.if-most-mark.true)
+      | else-most-mark w ↦ subst known (sym w.most-is) (smaller_mark is_no_feed block l.i begins mark l.invariant w.if-most-mark.false)
+    ]
 
 pub returns : goal.returns
 returns c =
