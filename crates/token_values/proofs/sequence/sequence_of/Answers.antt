@@ -1,5 +1,4 @@
--- Each return is one case of `sequenceOf`, by the tests that led there.
--- what the two calls say of the token: whether it is a decimal, and its number
+-- Each return is one case of `sequence_of`, by the tests that led there.
 use mathlib.Core.Path.{◌≡◌, sym, ap, ◌∙◌}
 use mathlib.Core.List.{List}
 use mathlib.Core.Bool.{Bool}
@@ -10,23 +9,24 @@ use Rattle.token_values.specs.Sequence.{positive_of, negative_of}
 use Rattle.token_values.proofs.SequenceLaws.{no_decimal, with_minus, without_minus}
 use Rattle.token_values.proofs.sequence.sequence_of.Goals as goal
 
-tested : (c : goal.After-all_digits) (t : Bool) → c.all_digits.result ≡ t → all_digits (after_sign c.args.token.now) ≡ t
-tested c t e = sym (c.all_digits.ensures ∙ ap all_digits c.after_sign-digits.ensures) ∙ e
+-- what the two calls say of the token: whether it is a decimal, and its number
+tested : (token s : List ℕ) (r t : Bool) → r ≡ all_digits s → s ≡ after_sign token → r ≡ t → all_digits (after_sign token) ≡ t
+tested token s r t a b e = sym (a ∙ ap all_digits b) ∙ e
 
-number : (c : goal.After-number_from-n) → c.number_from-n.result ≡ capped (number_from 0 (after_sign c.args.token.now))
-number c = c.number_from-n.ensures ∙ ap (λ (s : List ℕ). capped (number_from 0 s)) c.after_sign-digits.ensures
+number : (token s : List ℕ) (n : ℕ) → n ≡ capped (number_from 0 s) → s ≡ after_sign token → n ≡ capped (number_from 0 (after_sign token))
+number token s n a b = a ∙ ap (λ (t : List ℕ). capped (number_from 0 t)) b
 
 pub returns-then-not-all_digits : goal.returns-then-not-all_digits
-returns-then-not-all_digits c = sym (no_decimal c.args.token.now (tested c _ c.if-not-all_digits.true))
+returns-then-not-all_digits c = sym (no_decimal c.args.token.now (tested _ _ _ _ c.all_digits.ensures c.after_sign-digits.ensures c.if-not-all_digits.true))
 
 pub returns-then-byte_at-eq45 : goal.returns-then-byte_at-eq45
 returns-then-byte_at-eq45 c =
     let token = c.args.token.now in
-    c.negative.ensures ∙ ap negative_of (number c)
-    ∙ with_minus token (tested c _ c.if-not-all_digits.false) (sym c.byte_at.ensures ∙ c.if-byte_at-eq45.true)
+    c.negative.ensures ∙ ap negative_of (number token _ _ c.number_from-n.ensures c.after_sign-digits.ensures)
+    ∙ with_minus token (tested _ _ _ _ c.all_digits.ensures c.after_sign-digits.ensures c.if-not-all_digits.false) (sym c.byte_at.ensures ∙ c.if-byte_at-eq45.true)
 
 pub returns : goal.returns
 returns c =
     let token = c.args.token.now in
-    c.positive.ensures ∙ ap positive_of (number c)
-    ∙ without_minus token (tested c _ c.if-not-all_digits.false) (λ e. c.if-byte_at-eq45.false (c.byte_at.ensures ∙ e))
+    c.positive.ensures ∙ ap positive_of (number token _ _ c.number_from-n.ensures c.after_sign-digits.ensures)
+    ∙ without_minus token (tested _ _ _ _ c.all_digits.ensures c.after_sign-digits.ensures c.if-not-all_digits.false) (λ e. c.if-byte_at-eq45.false (c.byte_at.ensures ∙ e))
