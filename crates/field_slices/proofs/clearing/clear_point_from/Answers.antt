@@ -1,5 +1,4 @@
 -- Each turn clears one entry and leaves the clearing from one further on; past the end nothing is left to clear.
-use Prim.Native.Nat.{◌-◌}
 use native.Mathlib.Omega.{arith}
 use lib.ListN.{length-set}
 use Rattle.field_slices.specs.Clearing.{zero_point}
