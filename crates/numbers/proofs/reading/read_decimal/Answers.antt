@@ -1,19 +1,12 @@
 -- The tests are those of `withinReach`; where they pass no number was capped, so that the value is of the decimal's own two numbers.
--- what the digits write
-use mathlib.Core.Path.{◌≡◌, sym, ap, ◌∙◌}
+use mathlib.Core.Path.{sym, ap, ◌∙◌}
 use Prim.Native.Nat.{ℕ}
 use native.Mathlib.Omega.{arith}
 use lib.ListN.{length}
 use borrow.Author.Rules.{rules}
-use Rattle.numbers.specs.Reading.{all_together, value_of}
+use Rattle.numbers.specs.Reading.{value_of}
 use Rattle.numbers.proofs.ReadingLaws.{read_long, read_few, together_below, together_uncapped}
 use Rattle.numbers.proofs.reading.read_decimal.Goals as goal
-
-together : (c : goal.After-number_from-n) → c.number_from-n.result ≡ all_together c.args.whole.now c.args.places.now
-together c =
-    let whole = c.args.whole.now in
-    let places = c.args.places.now in
-    together_uncapped whole places (omega arith) c.number_from.result c.number_from-n.result c.number_from.ensures c.number_from-n.ensures
 
 pub returns-then-whole-gt-MOST_DIGITS : goal.returns-then-whole-gt-MOST_DIGITS
 returns-then-whole-gt-MOST_DIGITS c =
@@ -31,7 +24,7 @@ pub valued-requires : goal.valued-requires
 valued-requires c =
     let whole = c.args.whole.now in
     let places = c.args.places.now in
-    (rw (together c) (together_below whole places (omega arith)), search rules)
+    (rw (together_uncapped whole places (omega arith) c.number_from.result c.number_from-n.result c.number_from.ensures c.number_from-n.ensures) (together_below whole places (omega arith)), search rules)
 
 pub returns : goal.returns
 returns c =
@@ -39,5 +32,5 @@ returns c =
     let whole = c.args.whole.now in
     let places = c.args.places.now in
     c.valued.ensures
-    ∙ ap (λ (n : ℕ). value_of negative n (length places)) (together c)
+    ∙ ap (λ (n : ℕ). value_of negative n (length places)) (together_uncapped whole places (omega arith) c.number_from.result c.number_from-n.result c.number_from.ensures c.number_from-n.ensures)
     ∙ sym (read_few negative whole places (omega arith))

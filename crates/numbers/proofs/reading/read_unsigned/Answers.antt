@@ -8,21 +8,18 @@ use Rattle.numbers.specs.Reading.{read_as}
 use Rattle.numbers.proofs.GrammarLaws.{cut_digits, unsigned_word, unsigned_digits}
 use Rattle.numbers.proofs.reading.read_unsigned.Goals as goal
 
-within : (c : goal.After-count_digits-n) → c.count_digits-n.result ≤ length c.args.s.now
-within c = let s = c.args.s.now in subst (λ (n : ℕ). n ≤ length s) (sym c.count_digits-n.ensures) (run_fits s)
-
 pub returns-then-is_word : goal.returns-then-is_word
 unfolding read_as
-returns-then-is_word c = sym (ap read_as (unsigned_word _ c.args.s.now (sym c.is_IsWord.ensures ∙ c.if-is_word.true)))
+returns-then-is_word c = sym (ap read_as (unsigned_word _ c.args.s.now (sym c.is_word.ensures ∙ c.if-is_word.true)))
 
 pub slice_bounds-read_after_whole-end : goal.slice_bounds-read_after_whole-end
-slice_bounds-read_after_whole-end c = within c
+slice_bounds-read_after_whole-end c = let s = c.args.s.now in subst (λ (n : ℕ). n ≤ length s) (sym c.count_digits-n.ensures) (run_fits s)
 
 pub slice_bounds-read_after_whole-count-2 : goal.slice_bounds-read_after_whole-count-2
-slice_bounds-read_after_whole-count-2 c = within c
+slice_bounds-read_after_whole-count-2 c = let s = c.args.s.now in subst (λ (n : ℕ). n ≤ length s) (sym c.count_digits-n.ensures) (run_fits s)
 
 pub slice_bounds-read_after_whole-start-2 : goal.slice_bounds-read_after_whole-start-2
-slice_bounds-read_after_whole-start-2 c = within c
+slice_bounds-read_after_whole-start-2 c = let s = c.args.s.now in subst (λ (n : ℕ). n ≤ length s) (sym c.count_digits-n.ensures) (run_fits s)
 
 pub returns : goal.returns
 returns c =
@@ -31,4 +28,4 @@ returns c =
     c.read_after_whole.ensures
     ∙ ap read_as
     (cut_digits (after_whole negative) s c.count_digits-n.result c.count_digits-n.ensures
-    ∙ sym (unsigned_digits negative s (sym c.is_IsWord.ensures ∙ c.if-is_word.false)))
+    ∙ sym (unsigned_digits negative s (sym c.is_word.ensures ∙ c.if-is_word.false)))

@@ -1,5 +1,4 @@
 -- Each turn reads one digit more; of at most 15 the number still fits. What is no digit ends the walk, and so does the end.
-use Prim.Native.Nat.{◌-◌}
 use native.Mathlib.Omega.{arith}
 use Rattle.ascii.proofs.DigitLaws.{run_end, run_stop}
 use Rattle.numbers.proofs.PowerLaws.{ten_fits}
@@ -13,13 +12,15 @@ pub returns-then-b-lt48 : goal.returns-then-b-lt48
 returns-then-b-lt48 c =
     let a = c.args in
     let l = c.loop-i in
-    walk_ends a.s.now a.from a.n l.number l.i l.invariant (run_stop a.s.now l.i c.loop-i-test.true (below_digits _ c.if-b-lt48.true))
+    let ends = walk_ends a.s.now a.from a.n l.number l.i l.invariant (run_stop a.s.now l.i c.loop-i-test.true (below_digits _ c.if-b-lt48.true)) in
+    record { number_value = ends.0; end_value = ends.1.0; number_bound = ends.1.1 }
 
 pub returns-then-b-gt57 : goal.returns-then-b-gt57
 returns-then-b-gt57 c =
     let a = c.args in
     let l = c.loop-i in
-    walk_ends a.s.now a.from a.n l.number l.i l.invariant (run_stop a.s.now l.i c.loop-i-test.true (above_digits _ c.if-b-gt57.true))
+    let ends = walk_ends a.s.now a.from a.n l.number l.i l.invariant (run_stop a.s.now l.i c.loop-i-test.true (above_digits _ c.if-b-gt57.true)) in
+    record { number_value = ends.0; end_value = ends.1.0; number_bound = ends.1.1 }
 
 pub overflow_mul-number : goal.overflow_mul-number
 overflow_mul-number c =
@@ -41,4 +42,5 @@ pub returns : goal.returns
 returns c =
     let a = c.args in
     let l = c.loop-i in
-    walk_ends a.s.now a.from a.n l.number l.i l.invariant (run_end a.s.now l.i (omega arith))
+    let ends = walk_ends a.s.now a.from a.n l.number l.i l.invariant (run_end a.s.now l.i (omega arith)) in
+    record { number_value = ends.0; end_value = ends.1.0; number_bound = ends.1.1 }
