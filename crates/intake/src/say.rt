@@ -1,20 +1,20 @@
 // What goes to standard output.
-use libc::STDOUT_FILENO;
+use std::io;
 
-pub(crate) fn text(bytes: &[u8]) {
-    io::write_all(STDOUT_FILENO, bytes);
+pub(crate) fn text(rt: &impl Print, bytes: &[u8]) -> io::Result<()> {
+    rt.write_all(bytes)
 }
 
-fn number(n: u64) {
-    io::print_decimal(STDOUT_FILENO, n);
+fn number(rt: &impl Print, n: u64) -> io::Result<()> {
+    print!(rt; "{n}")
 }
 
-pub(crate) fn refused(why: u8, line: usize, detail: usize) {
-    text(b"refused ");
-    number(why as u64);
-    text(b" line ");
-    number(line as u64);
-    text(b" detail ");
-    number(detail as u64);
-    text(b"\n");
+pub(crate) fn refused(rt: &impl Print, why: u8, line: usize, detail: usize) -> io::Result<()> {
+    text(rt, b"refused ")?;
+    number(rt, why as u64)?;
+    text(rt, b" line ")?;
+    number(rt, line as u64)?;
+    text(rt, b" detail ")?;
+    number(rt, detail as u64)?;
+    text(rt, b"\n")
 }

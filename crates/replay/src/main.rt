@@ -2,7 +2,8 @@
 // published Rust, which what is written is held to.
 #![tactic(auto)]
 
-use libc::STDIN_FILENO;
+use std::io;
+use std::io::Read;
 
 mod doubles;
 mod escapes;
@@ -14,84 +15,89 @@ mod say;
 mod texts_answered;
 mod tokens_answered;
 
-fn answer_numbers(question: &[u8], text: &[u8]) -> bool {
+fn answer_numbers(rt: &impl Print, question: &[u8], text: &[u8]) -> io::Result<bool> {
     if check::same(question, b"read") {
-        numbers_answered::read(text);
-        return true;
+        numbers_answered::read(rt, text)?;
+        return Ok(true);
     }
     if check::same(question, b"print") {
-        numbers_answered::print(text);
-        return true;
+        numbers_answered::print(rt, text)?;
+        return Ok(true);
     }
-    false
+    Ok(false)
 }
 
-fn answer_tokens(question: &[u8], text: &[u8]) -> bool {
+fn answer_tokens(rt: &impl Print, question: &[u8], text: &[u8]) -> io::Result<bool> {
     if check::same(question, b"tokens") {
-        tokens_answered::tokens(text);
-        return true;
+        tokens_answered::tokens(rt, text)?;
+        return Ok(true);
     }
     if check::same(question, b"quote") {
-        tokens_answered::quote(text);
-        return true;
+        tokens_answered::quote(rt, text)?;
+        return Ok(true);
     }
     if check::same(question, b"sequence") {
-        tokens_answered::sequence(text);
-        return true;
+        tokens_answered::sequence(rt, text)?;
+        return Ok(true);
     }
-    false
+    Ok(false)
 }
 
-fn answer_names(question: &[u8], text: &[u8]) -> bool {
+fn answer_names(rt: &impl Print, question: &[u8], text: &[u8]) -> io::Result<bool> {
     if check::same(question, b"resolve") {
-        names_answered::resolve(text);
-        return true;
+        names_answered::resolve(rt, text)?;
+        return Ok(true);
     }
     if check::same(question, b"element") {
-        names_answered::element(text);
-        return true;
+        names_answered::element(rt, text)?;
+        return Ok(true);
     }
-    false
+    Ok(false)
 }
 
-fn answer_texts(question: &[u8], text: &[u8]) -> bool {
+fn answer_texts(rt: &impl Print, question: &[u8], text: &[u8]) -> io::Result<bool> {
     if check::same(question, b"structure") {
-        texts_answered::structure(text);
-        return true;
+        texts_answered::structure(rt, text)?;
+        return Ok(true);
     }
-    false
+    Ok(false)
 }
 
-fn answer(question: &[u8], text: &[u8]) {
-    let answered = answer_numbers(question, text)
-        || answer_tokens(question, text)
-        || answer_names(question, text)
-        || answer_texts(question, text);
+fn answer(rt: &impl Print, question: &[u8], text: &[u8]) -> io::Result<()> {
+    let answered = answer_numbers(rt, question, text)?
+        || answer_tokens(rt, question, text)?
+        || answer_names(rt, question, text)?
+        || answer_texts(rt, question, text)?;
     if !answered {
-        say::say(b"not a question");
+        say::say(rt, b"not a question")?;
     }
+    Ok(())
 }
 
 // A line is a question, a blank, and the text that it is asked of.
-fn answer_line(line: &[u8]) {
+fn answer_line(rt: &impl Print, line: &[u8]) -> io::Result<()> {
     let blank = parts::end_of(line, 0, b' ');
     if blank < line.len() {
-        answer(&line[0..blank], &line[blank + 1..]);
+        answer(rt, &line[0..blank], &line[blank + 1..])?;
     }
-    say::say(b"\n");
+    say::say(rt, b"\n")
 }
 
-fn answer_all(text: &[u8]) {
+fn answer_all(rt: &impl Print, text: &[u8]) -> io::Result<()> {
     let mut at = 0;
     while at < text.len() {
         let end = parts::end_of(text, at, b'\n');
-        answer_line(&text[at..end]);
+        answer_line(rt, &text[at..end])?;
         at = end + 1;
     }
+    Ok(())
 }
 
-fn main() {
-    let mut text = [0u8; 262144];
-    let n = io::read_full(STDIN_FILENO, &mut text);
-    answer_all(&text[..n]);
+// The most bytes that are read.
+const LARGEST: u64 = 262144;
+
+fn main(rt: HostRuntime) -> io::Result<()> {
+    let mut text = Vec::new(rt.alloc());
+    rt.stdin().take(LARGEST).read_to_end(&mut text)?;
+    answer_all(&rt, &text)
 }

@@ -1,27 +1,29 @@
 // Names: the canonical name and the standard residue that a name stands for, the element of a symbol.
 use crate::say::{say, say_number};
 use names::Resolved;
+use std::io;
 
-fn say_name(packed: u64) {
+fn say_name(rt: &impl Print, packed: u64) -> io::Result<()> {
     let mut cell = [0u8; 8];
     let length = names::unpack(packed, &mut cell);
     if length <= 8 {
-        say(&cell[0..length]);
+        say(rt, &cell[0..length])?;
     }
+    Ok(())
 }
 
-pub(crate) fn resolve(name: &[u8]) {
+pub(crate) fn resolve(rt: &impl Print, name: &[u8]) -> io::Result<()> {
     let r = names::resolve(names::pack(name));
     match r {
         Resolved::Standard { name, residue } => {
-            say_name(name);
-            say(b" ");
-            say_name(residue.name());
+            say_name(rt, name)?;
+            say(rt, b" ")?;
+            say_name(rt, residue.name())
         }
-        Resolved::Unresolved => say(b"unresolved"),
+        Resolved::Unresolved => say(rt, b"unresolved"),
     }
 }
 
-pub(crate) fn element(symbol: &[u8]) {
-    say_number(names::element_of(symbol) as u64);
+pub(crate) fn element(rt: &impl Print, symbol: &[u8]) -> io::Result<()> {
+    say_number(rt, names::element_of(symbol) as u64)
 }

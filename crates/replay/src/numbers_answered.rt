@@ -3,28 +3,30 @@ use crate::doubles;
 use crate::say::{say, say_bits};
 use ascii::Placed;
 use numbers::{Number, Printed};
+use std::io;
 
 // The value's bits, or why it has none.
-pub(crate) fn read(text: &[u8]) {
+pub(crate) fn read(rt: &impl Print, text: &[u8]) -> io::Result<()> {
     let n = numbers::read_number(text);
     match n {
-        Number::OutsideGrammar => say(b"outside"),
-        Number::BeyondReach => say(b"beyond"),
-        Number::Value(x) => say_bits(f64::to_bits(x)),
+        Number::OutsideGrammar => say(rt, b"outside"),
+        Number::BeyondReach => say(rt, b"beyond"),
+        Number::Value(x) => say_bits(rt, f64::to_bits(x)),
     }
 }
 
 // The text with three places of the double whose bits are given, or that it has none.
-pub(crate) fn print(digits: &[u8]) {
+pub(crate) fn print(rt: &impl Print, digits: &[u8]) -> io::Result<()> {
     let mut text = [0u8; 16];
     let printed = numbers::write_thousandths(&mut text, 0, doubles::read(digits));
     let Printed::Put(placed) = printed else {
-        return say(b"beyond");
+        return say(rt, b"beyond");
     };
     let Placed::Next(end) = placed else {
-        return say(b"no room");
+        return say(rt, b"no room");
     };
     if end <= 16 {
-        say(&text[0..end]);
+        say(rt, &text[0..end])?;
     }
+    Ok(())
 }

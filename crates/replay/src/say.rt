@@ -1,15 +1,15 @@
 // What is answered goes to standard output.
-use libc::STDOUT_FILENO;
+use std::io;
 
-pub(crate) fn say(text: &[u8]) {
-    io::write_all(STDOUT_FILENO, text);
+pub(crate) fn say(rt: &impl Print, text: &[u8]) -> io::Result<()> {
+    rt.write_all(text)
 }
 
-pub(crate) fn say_number(n: u64) {
-    io::print_decimal(STDOUT_FILENO, n);
+pub(crate) fn say_number(rt: &impl Print, n: u64) -> io::Result<()> {
+    print!(rt; "{n}")
 }
 
 // A double's bits, as sixteen hexadecimal digits.
-pub(crate) fn say_bits(bits: u64) {
-    io::print_hex(STDOUT_FILENO, bits, 16);
+pub(crate) fn say_bits(rt: &impl Print, bits: u64) -> io::Result<()> {
+    print!(rt; "{bits:016x}")
 }

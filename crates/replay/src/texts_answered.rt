@@ -5,30 +5,32 @@ use crate::say::{say, say_number};
 use building::Counts;
 use readings::Answer;
 use refusals::Refusal;
+use std::io;
 
-fn say_refusal(why: Refusal) {
+fn say_refusal(rt: &impl Print, why: Refusal) -> io::Result<()> {
     let reason = why.reason;
-    say(b"refused ");
-    say_number(reason.number() as u64);
+    say(rt, b"refused ")?;
+    say_number(rt, reason.number() as u64)?;
     // The published Rust does not tell the place of a residue that it does not know.
     if why.line != 0 {
-        say(b" line ");
-        say_number(why.line as u64);
-        say(b" detail ");
-        say_number(reason.detail() as u64);
+        say(rt, b" line ")?;
+        say_number(rt, why.line as u64)?;
+        say(rt, b" detail ")?;
+        say_number(rt, reason.detail() as u64)?;
     }
+    Ok(())
 }
 
 // The first word of the answer, and of a refusal all of it; the counts of the records to be told.
-fn say_answer(answer: Answer) -> Counts {
+fn say_answer(rt: &impl Print, answer: Answer) -> io::Result<Counts> {
     match answer {
         Answer::Read(counts) => {
-            say(b"read");
-            counts
+            say(rt, b"read")?;
+            Ok(counts)
         }
         Answer::Refused(why) => {
-            say_refusal(why);
-            Counts {
+            say_refusal(rt, why)?;
+            Ok(Counts {
                 chains: 0,
                 residues: 0,
                 atoms: 0,
@@ -36,12 +38,12 @@ fn say_answer(answer: Answer) -> Counts {
                 skipped: 0,
                 outdone: 0,
                 assumed: 0,
-            }
+            })
         }
     }
 }
 
-fn answer(text: &[u8]) {
+fn answer(rt: &impl Print, text: &[u8]) -> io::Result<()> {
     let mut chains = [0u64; 64];
     let mut residue_keys = [0u64; 64];
     let mut residue_names = [0u64; 64];
@@ -68,23 +70,32 @@ fn answer(text: &[u8]) {
         &mut occupancies,
         rows::assuming(),
     );
-    let counts = say_answer(answer);
-    say_chains(&chains, counts.chains);
+    let counts = say_answer(rt, answer)?;
+    say_chains(rt, &chains, counts.chains)?;
     say_residues(
+        rt,
         &residue_keys,
         &residue_names,
         &residue_codes,
         &residue_categories,
         &residue_positions,
         counts.residues,
-    );
-    say_atoms(&atom_keys, &atom_names, &elements, &positions, counts.atoms);
+    )?;
+    say_atoms(
+        rt,
+        &atom_keys,
+        &atom_names,
+        &elements,
+        &positions,
+        counts.atoms,
+    )
 }
 
-pub(crate) fn structure(escaped: &[u8]) {
+pub(crate) fn structure(rt: &impl Print, escaped: &[u8]) -> io::Result<()> {
     let mut text = [0u8; 1024];
     let length = escapes::put_text(escaped, &mut text);
     if length <= 1024 {
-        answer(&text[0..length]);
+        answer(rt, &text[0..length])?;
     }
+    Ok(())
 }

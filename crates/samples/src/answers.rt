@@ -5,6 +5,7 @@ use crate::texts::put_atoms;
 use building::Counts;
 use readings::Answer;
 use refusals::Refusal;
+use std::io;
 
 // What is said of the records besides the answer.
 #[derive(Clone, Copy)]
@@ -19,103 +20,104 @@ pub(crate) enum Word {
 }
 
 // Chains, residues, atoms, rows, skipped, outdone, assumed.
-fn say_counts(counts: Counts) {
-    say(b"read ");
-    say_count(counts.chains);
-    say(b" ");
-    say_count(counts.residues);
-    say(b" ");
-    say_count(counts.atoms);
-    say(b" ");
-    say_count(counts.rows);
-    say(b" ");
-    say_count(counts.skipped);
-    say(b" ");
-    say_count(counts.outdone);
-    say(b" ");
-    say_count(counts.assumed);
+fn say_counts(rt: &impl Print, counts: Counts) -> io::Result<()> {
+    say(rt, b"read ")?;
+    say_count(rt, counts.chains)?;
+    say(rt, b" ")?;
+    say_count(rt, counts.residues)?;
+    say(rt, b" ")?;
+    say_count(rt, counts.atoms)?;
+    say(rt, b" ")?;
+    say_count(rt, counts.rows)?;
+    say(rt, b" ")?;
+    say_count(rt, counts.skipped)?;
+    say(rt, b" ")?;
+    say_count(rt, counts.outdone)?;
+    say(rt, b" ")?;
+    say_count(rt, counts.assumed)
 }
 
-fn say_refusal(why: Refusal) {
+fn say_refusal(rt: &impl Print, why: Refusal) -> io::Result<()> {
     let reason = why.reason;
-    say(b"refused ");
-    say_count(reason.number() as usize);
-    say(b" line ");
-    say_count(why.line);
-    say(b" detail ");
-    say_count(reason.detail());
+    say(rt, b"refused ")?;
+    say_count(rt, reason.number() as usize)?;
+    say(rt, b" line ")?;
+    say_count(rt, why.line)?;
+    say(rt, b" detail ")?;
+    say_count(rt, reason.detail())
 }
 
-fn say_answer(answer: Answer) {
+fn say_answer(rt: &impl Print, answer: Answer) -> io::Result<()> {
     match answer {
-        Answer::Read(counts) => say_counts(counts),
-        Answer::Refused(why) => say_refusal(why),
+        Answer::Read(counts) => say_counts(rt, counts),
+        Answer::Refused(why) => say_refusal(rt, why),
     }
 }
 
-fn say_names(reading: Reading) {
+fn say_names(rt: &impl Print, reading: Reading) -> io::Result<()> {
     if reading.atom == 0 {
-        return;
+        return Ok(());
     }
-    say(b"; chain ");
-    say_name(reading.chain);
-    say(b" residue ");
-    say_name(reading.residue);
-    say(b" atom ");
-    say_name(reading.atom);
+    say(rt, b"; chain ")?;
+    say_name(rt, reading.chain)?;
+    say(rt, b" residue ")?;
+    say_name(rt, reading.residue)?;
+    say(rt, b" atom ")?;
+    say_name(rt, reading.atom)
 }
 
-fn say_place(reading: Reading) {
+fn say_place(rt: &impl Print, reading: Reading) -> io::Result<()> {
     if reading.atom == 0 {
-        return;
+        return Ok(());
     }
     let position = reading.position;
-    say(b"; at ");
-    say_value(position[0]);
-    say(b" ");
-    say_value(position[1]);
-    say(b" ");
-    say_value(position[2]);
-    say(b" occupancy ");
-    say_value(reading.occupancy);
+    say(rt, b"; at ")?;
+    say_value(rt, position[0])?;
+    say(rt, b" ")?;
+    say_value(rt, position[1])?;
+    say(rt, b" ")?;
+    say_value(rt, position[2])?;
+    say(rt, b" occupancy ")?;
+    say_value(rt, reading.occupancy)
 }
 
-fn say_rest(reading: Reading) {
+fn say_rest(rt: &impl Print, reading: Reading) -> io::Result<()> {
     if reading.rest_is_zero {
-        say(b"; the rest is zero");
+        say(rt, b"; the rest is zero")
     } else {
-        say(b"; the rest is not zero");
+        say(rt, b"; the rest is not zero")
     }
 }
 
-fn say_word(reading: Reading, word: Word) {
+fn say_word(rt: &impl Print, reading: Reading, word: Word) -> io::Result<()> {
     match word {
-        Word::Nothing => {}
-        Word::Names => say_names(reading),
-        Word::Place => say_place(reading),
-        Word::Rest => say_rest(reading),
+        Word::Nothing => Ok(()),
+        Word::Names => say_names(rt, reading),
+        Word::Place => say_place(rt, reading),
+        Word::Rest => say_rest(rt, reading),
     }
 }
 
-pub(crate) fn say_sample(name: &[u8], answer: Answer) {
-    say(name);
-    say(b": ");
-    say_answer(answer);
+pub(crate) fn say_sample(rt: &impl Print, name: &[u8], answer: Answer) -> io::Result<()> {
+    say(rt, name)?;
+    say(rt, b": ")?;
+    say_answer(rt, answer)
 }
 
-pub(crate) fn show(name: &[u8], text: &[u8], word: Word) {
+pub(crate) fn show(rt: &impl Print, name: &[u8], text: &[u8], word: Word) -> io::Result<()> {
     let reading = read(text);
     let answer = reading.answer;
-    say_sample(name, answer);
-    say_word(reading, word);
-    say(b"\n");
+    say_sample(rt, name, answer)?;
+    say_word(rt, reading, word)?;
+    say(rt, b"\n")
 }
 
 // The lines behind the headers of document 01's whole case.
-pub(crate) fn show_lines(name: &[u8], lines: &[u8], word: Word) {
+pub(crate) fn show_lines(rt: &impl Print, name: &[u8], lines: &[u8], word: Word) -> io::Result<()> {
     let mut text = [0u8; 1024];
     let length = put_atoms(&mut text, lines);
     if length <= 1024 {
-        show(name, &text[0..length], word);
+        show(rt, name, &text[0..length], word)?;
     }
+    Ok(())
 }

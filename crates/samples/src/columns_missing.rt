@@ -1,9 +1,11 @@
 // Refusal 5: each of the seven columns missing in turn, in a loop behind another.
 use crate::answers::Word;
 use crate::tables::show_table;
+use std::io;
 
-pub(crate) fn show_all() {
+pub(crate) fn show_all(rt: &impl Print) -> io::Result<()> {
     show_table(
+        rt,
         b"\
 no atom column
  loop_
@@ -74,5 +76,5 @@ no column but the group
  ATOM
 ",
         Word::Nothing,
-    );
+    )
 }

@@ -1,9 +1,11 @@
 // The samples of numbers as a coordinate and as an occupancy.
 use crate::answers::Word;
 use crate::tables::show_table;
+use std::io;
 
-pub(crate) fn show_all() {
+pub(crate) fn show_all(rt: &impl Print) -> io::Result<()> {
     show_table(
+        rt,
         b"\
 x 1000000
  ATOM C CA MET A 7 1000000 2 3 1
@@ -39,5 +41,5 @@ occupancy 0,5
  ATOM C CA MET A 7 1 2 3 0,5
 ",
         Word::Place,
-    );
+    )
 }

@@ -1,9 +1,11 @@
 // Names of 8 and 9 bytes.
 use crate::answers::Word;
 use crate::tables::show_table;
+use std::io;
 
-pub(crate) fn show_all() {
+pub(crate) fn show_all(rt: &impl Print) -> io::Result<()> {
     show_table(
+        rt,
         b"\
 atom of 8
  HETATM C ABCDEFGH QQQ A 7 1 2 3 1
@@ -23,5 +25,5 @@ residue and chain of 9
  HETATM C CA ABCDEFGHI ABCDEFGHI 7 1 2 3 1
 ",
         Word::Names,
-    );
+    )
 }

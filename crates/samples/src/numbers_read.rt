@@ -1,26 +1,27 @@
 // Numbers: the two limits of reach and the forms of the grammar, each read and printed with three places.
 use crate::say::{say, say_value};
 use numbers::Number;
+use std::io;
 
-fn show(text: &[u8]) {
-    say(text);
-    say(b" is ");
+fn show(rt: &impl Print, text: &[u8]) -> io::Result<()> {
+    say(rt, text)?;
+    say(rt, b" is ")?;
     let n = numbers::read_number(text);
     match n {
-        Number::OutsideGrammar => say(b"outside the grammar"),
-        Number::BeyondReach => say(b"beyond reach"),
-        Number::Value(x) => say_value(x),
+        Number::OutsideGrammar => say(rt, b"outside the grammar")?,
+        Number::BeyondReach => say(rt, b"beyond reach")?,
+        Number::Value(x) => say_value(rt, x)?,
     }
-    say(b"\n");
+    say(rt, b"\n")
 }
 
-pub(crate) fn show_all() {
-    show(b"1000000");
-    show(b"1000000.1");
-    show(b"123456.789012345");
-    show(b"123456.7890123456");
-    show(b"1e3");
-    show(b"5.");
-    show(b".5");
-    show(b"0,5");
+pub(crate) fn show_all(rt: &impl Print) -> io::Result<()> {
+    show(rt, b"1000000")?;
+    show(rt, b"1000000.1")?;
+    show(rt, b"123456.789012345")?;
+    show(rt, b"123456.7890123456")?;
+    show(rt, b"1e3")?;
+    show(rt, b"5.")?;
+    show(rt, b".5")?;
+    show(rt, b"0,5")
 }

@@ -1,9 +1,11 @@
 // Records that are dirty before a reading: past the counts they are zero after it, and all of them are after a refusal.
 use crate::answers::Word;
 use crate::tables::show_table;
+use std::io;
 
-pub(crate) fn show_all() {
+pub(crate) fn show_all(rt: &impl Print) -> io::Result<()> {
     show_table(
+        rt,
         b"\
 dirty before no row
 dirty before a byte outside
@@ -22,5 +24,5 @@ dirty before an unknown residue
  ATOM N N QQQ A 8 1 2 3 1
 ",
         Word::Rest,
-    );
+    )
 }

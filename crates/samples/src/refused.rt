@@ -2,9 +2,11 @@
 // here: it is longer than what a program can lend.
 use crate::answers::Word;
 use crate::tables::show_table;
+use std::io;
 
-pub(crate) fn show_all() {
+pub(crate) fn show_all(rt: &impl Print) -> io::Result<()> {
     show_table(
+        rt,
         b"\
 byte 0
  \x00
@@ -69,5 +71,5 @@ unknown residue before a short row
 13 at the end
  data_x\r",
         Word::Nothing,
-    );
+    )
 }

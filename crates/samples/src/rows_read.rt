@@ -1,9 +1,11 @@
 // Document 01's whole case, and what is easy to get wrong in a row.
 use crate::answers::Word;
 use crate::tables::show_table;
+use std::io;
 
-pub(crate) fn show_all() {
+pub(crate) fn show_all(rt: &impl Print) -> io::Result<()> {
     show_table(
+        rt,
         b"\
 whole case
  ATOM C CA MSE A 7 1.5 -0.0004 2 0.6
@@ -21,8 +23,9 @@ row without z, all else amiss
  ATOM C ABCDEFGHI QQQ A 7 x 1e3 ? inf
 ",
         Word::Place,
-    );
+    )?;
     show_table(
+        rt,
         b"\
 auth columns that hold a point
  _atom_site.label_atom_id
@@ -30,5 +33,5 @@ auth columns that hold a point
  ATOM C . MET . 7 1 2 3 1 CA A
 ",
         Word::Names,
-    );
+    )
 }

@@ -5,6 +5,7 @@ use crate::answers::say_sample;
 use crate::say::say;
 use crate::texts::put_atoms;
 use readings::Answer;
+use std::io;
 
 fn length_of(field: usize, shortest: usize, needed: usize) -> usize
     ensures { result ≤ needed }
@@ -58,29 +59,29 @@ fn read(text: &[u8], shortest: usize) -> Answer {
     )
 }
 
-fn show(text: &[u8], shortest: usize, name: &[u8]) {
-    say_sample(name, read(text, shortest));
-    say(b"\n");
+fn show(rt: &impl Print, text: &[u8], shortest: usize, name: &[u8]) -> io::Result<()> {
+    say_sample(rt, name, read(text, shortest))?;
+    say(rt, b"\n")
 }
 
-fn show_each(text: &[u8]) {
-    show(text, 11, b"no slice shorter");
-    show(text, 0, b"shortest chains");
-    show(text, 1, b"shortest residue keys");
-    show(text, 2, b"shortest residue names");
-    show(text, 3, b"shortest residue codes");
-    show(text, 4, b"shortest residue categories");
-    show(text, 5, b"shortest residue positions");
-    show(text, 6, b"shortest atom keys");
-    show(text, 7, b"shortest atom names");
-    show(text, 8, b"shortest elements");
-    show(text, 9, b"shortest positions");
-    show(text, 10, b"shortest occupancies");
+fn show_each(rt: &impl Print, text: &[u8]) -> io::Result<()> {
+    show(rt, text, 11, b"no slice shorter")?;
+    show(rt, text, 0, b"shortest chains")?;
+    show(rt, text, 1, b"shortest residue keys")?;
+    show(rt, text, 2, b"shortest residue names")?;
+    show(rt, text, 3, b"shortest residue codes")?;
+    show(rt, text, 4, b"shortest residue categories")?;
+    show(rt, text, 5, b"shortest residue positions")?;
+    show(rt, text, 6, b"shortest atom keys")?;
+    show(rt, text, 7, b"shortest atom names")?;
+    show(rt, text, 8, b"shortest elements")?;
+    show(rt, text, 9, b"shortest positions")?;
+    show(rt, text, 10, b"shortest occupancies")
 }
 
 // Two chains, three residues and four atoms. The second chain is met in line 13, the third residue in line 14, the fourth atom in line
 // 15; the row of line 16 takes the place of that of line 15.
-pub(crate) fn show_all() {
+pub(crate) fn show_all(rt: &impl Print) -> io::Result<()> {
     let mut buffer = [0u8; 512];
     let length = put_atoms(
         &mut buffer,
@@ -93,6 +94,7 @@ ATOM N N GLY A 8 4 5 6 0.6
 ",
     );
     if length <= 512 {
-        show_each(&buffer[0..length]);
+        show_each(rt, &buffer[0..length])?;
     }
+    Ok(())
 }

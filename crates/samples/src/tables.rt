@@ -2,6 +2,7 @@
 ghost use Rattle.std.specs.Prelude.{◌≤◌, ◌<◌, length};
 
 use crate::answers::{Word, show_lines};
+use std::io;
 
 // The place behind the line that an index is in.
 fn behind_line(table: &[u8], from: usize) -> usize
@@ -33,12 +34,13 @@ fn behind_lines(table: &[u8], from: usize) -> usize
     i
 }
 
-pub(crate) fn show_table(table: &[u8], word: Word) {
+pub(crate) fn show_table(rt: &impl Print, table: &[u8], word: Word) -> io::Result<()> {
     let mut at = 0;
     while at < table.len() {
         let start = behind_line(table, at);
         let end = behind_lines(table, start);
-        show_lines(&table[at..start - 1], &table[start..end], word);
+        show_lines(rt, &table[at..start - 1], &table[start..end], word)?;
         at = end;
     }
+    Ok(())
 }
