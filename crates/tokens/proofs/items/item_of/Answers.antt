@@ -1,6 +1,6 @@
 -- The place among all names is the k names passed and the place among those left: a match is at 0 there, anything else moves one over.
 use mathlib.Core.Path.{◌≡◌, sym, ◌∙◌}
-use Prim.Native.Nat.{suc, ◌+◌, ◌-◌}
+use Prim.Native.Nat.{suc, ◌+◌}
 use native.Mathlib.Omega.{arith}
 use lib.ListN.{drop}
 use Rattle.tokens.specs.Items.{item_names, place_in}

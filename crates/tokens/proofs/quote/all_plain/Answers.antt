@@ -1,6 +1,5 @@
 -- While the bytes passed are plain, all of s are exactly where all that are left are.
 use mathlib.Core.Path.{sym, ◌∙◌}
-use Prim.Native.Nat.{◌-◌}
 use Rattle.tokens.proofs.QuoteLaws.{plain_stop, plain_more, plain_end}
 use Rattle.tokens.proofs.quote.all_plain.Goals as goal
 

@@ -1,6 +1,5 @@
 -- While b was not met, it stands in s exactly where it stands in what is left.
 use mathlib.Core.Path.{sym, ◌∙◌}
-use Prim.Native.Nat.{◌-◌}
 use Rattle.tokens.proofs.QuoteLaws.{has_here, has_more, has_end}
 use Rattle.tokens.proofs.quote.has_byte.Goals as goal
 

@@ -1,6 +1,7 @@
 -- The quotes and the name are put where they fit, which is what the code asks: the name and two bytes more.
--- what was asked is whether the quoted name fits
 use mathlib.Core.Path.{◌≡◌, sym, ap, ◌∙◌}
+use mathlib.Core.List.{List}
+use mathlib.Core.Bool.{Bool}
 use Prim.Native.Nat.{ℕ, ◌+◌}
 use lib.Dec.{leb}
 use lib.ListN.{length}
@@ -11,15 +12,14 @@ use Rattle.tokens.specs.Quote.{in_quotes}
 use Rattle.tokens.proofs.QuoteLaws.{quoted_length}
 use Rattle.tokens.proofs.quote.put_quoted.Goals as goal
 
-asked : (c : goal.After-fits_at) → let a = c.args in fits a.out.now a.at (in_quotes a.q a.name.now) ≡ c.fits_at.result
-asked c =
-    let a = c.args in
-    ap (λ (n : ℕ). leb (a.at + n) (length a.out.now)) (sym (quoted_length a.q a.name.now)) ∙ sym c.fits_at.ensures
+-- what was asked is whether the quoted name fits
+asked : (name out : List ℕ) (q at : ℕ) (t : Bool) → t ≡ leb (at + (length name + 2)) (length out) → fits out at (in_quotes q name) ≡ t
+asked name out q at t e = ap (λ (n : ℕ). leb (at + n) (length out)) (sym (quoted_length q name)) ∙ sym e
 
 pub returns-then-not-fits_at : goal.returns-then-not-fits_at
 returns-then-not-fits_at c =
     let a = c.args in
-    put_nothing a.out.now a.at (in_quotes a.q a.name.now) (asked c ∙ c.if-not-fits_at.true) (quoted_length a.q a.name.now)
+    put_nothing a.out.now a.at (in_quotes a.q a.name.now) (asked a.name.now a.out.now a.q a.at _ c.fits_at.ensures ∙ c.if-not-fits_at.true) (quoted_length a.q a.name.now)
 
 pub put_in_quotes-requires : goal.put_in_quotes-requires
 put_in_quotes-requires c = leb-true _ _ (sym c.fits_at.ensures ∙ c.if-not-fits_at.false)
@@ -27,4 +27,4 @@ put_in_quotes-requires c = leb-true _ _ (sym c.fits_at.ensures ∙ c.if-not-fits
 pub returns : goal.returns
 returns c =
     let a = c.args in
-    put_whole a.out.now a.at (in_quotes a.q a.name.now) (asked c ∙ c.if-not-fits_at.false) c.put_in_quotes.ensures
+    put_whole a.out.now a.at (in_quotes a.q a.name.now) (asked a.name.now a.out.now a.q a.at _ c.fits_at.ensures ∙ c.if-not-fits_at.false) c.put_in_quotes.ensures

@@ -1,9 +1,8 @@
 -- The walk has copied what it has passed; each byte keeps that, and the text's end ends the last token.
 use mathlib.Core.Path.{refl, ap, ◌∙◌}
 use mathlib.Core.List.{List}
-use Prim.Native.Nat.{ℕ, ◌-◌, ◌≤◌}
+use Prim.Native.Nat.{ℕ}
 use native.Mathlib.Omega.{arith}
-use borrow.Author.Rules.{zero≤}
 use lib.ListN.{get_or}
 use lib.Seq.{sets}
 use Rattle.tokens.specs.declared.split.Split.{Split}
@@ -14,7 +13,7 @@ use Rattle.tokens.proofs.SplitLaws.{byte_copied, all_copied, first_copied, first
 use Rattle.tokens.proofs.split.split_text.Goals as goal
 
 pub loop-w-init : goal.loop-w-init
-loop-w-init c = (zero≤, record { counted = zero≤; begins = zero≤; within = zero≤ }, rw c.store_place.ensures (first_copied c.args.text.now c.args.cell.now c.args.places.now))
+loop-w-init c = (omega arith, record { counted = omega arith; begins = omega arith; within = omega arith }, rw c.store_place.ensures (first_copied c.args.text.now c.args.cell.now c.args.places.now))
 
 pub take_byte-w-requires : goal.take_byte-w-requires
 take_byte-w-requires c = (c.loop-w-test.true, c.loop-w.invariant.1)
@@ -42,7 +41,9 @@ returns c =
     let e = c.end_token-last.ensures in
     let text = c.args.text.now in
     let places = c.args.places.now in
-    let all = all_copied text _ _ l.w l.cell l.places l.invariant.2 c.loop-w-test.false in record { value = ap (λ (w : Split). w.count) e.0 ∙ all.0; cell_after = all.1; places_after = e.1 ∙ all.2 ∙ ap (λ (p : List ℕ). sets p 0 (places_from 0 (tokens_from text))) c.store_place.ensures ∙ first_place_lem places (tokens_from text) }
-
-pub returns : goal.returns
-returns c = returns c
+    let all = all_copied text _ _ l.w l.cell l.places l.invariant.2 c.loop-w-test.false in
+    record {
+      value = ap (λ (w : Split). w.count) e.0 ∙ all.0;
+      cell_after = all.1;
+      places_after = e.1 ∙ all.2 ∙ ap (λ (p : List ℕ). sets p 0 (places_from 0 (tokens_from text))) c.store_place.ensures ∙ first_place_lem places (tokens_from text);
+    }

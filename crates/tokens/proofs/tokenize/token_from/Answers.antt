@@ -1,11 +1,10 @@
 -- The walk stands where it looks for the k-th token and the cell is as it was; each step keeps that, and when the walk is over the token is found.
-use Prim.Native.Nat.{◌≤◌}
-use borrow.Author.Rules.{zero≤}
+use native.Mathlib.Omega.{arith}
 use Rattle.tokens.proofs.WalkLaws.{stands_first}
 use Rattle.tokens.proofs.tokenize.token_from.Goals as goal
 
 pub loop-w-init : goal.loop-w-init
-loop-w-init c = rw c.going-w.ensures (zero≤, stands_first _ _ _)
+loop-w-init c = rw c.going-w.ensures (omega arith, stands_first _ _ _)
 
 pub step-w-requires : goal.step-w-requires
 step-w-requires c = (c.loop-w-test.true, c.loop-w.invariant.0)

@@ -1,9 +1,7 @@
 -- Trimming what stands before i is trimming the line: a blank before i moves it back, any other byte or the start stops.
 use mathlib.Core.Path.{sym, ◌∙◌}
-use Prim.Native.Nat.{◌≤◌}
 use native.Mathlib.Nat.{le_refl}
 use native.Mathlib.Omega.{arith}
-use borrow.Author.Rules.{zero≤}
 use Rattle.tokens.proofs.TrimLaws.{end_back, end_here, end_all, end_none}
 use Rattle.tokens.proofs.trim.trim_end.Goals as goal
 
@@ -28,4 +26,4 @@ pub returns : goal.returns
 returns c =
     let line = c.args.line.now in
     let l = c.loop-i in
-    (zero≤, end_none line l.i c.loop-i-test.false ∙ l.invariant.1)
+    (omega arith, end_none line l.i c.loop-i-test.false ∙ l.invariant.1)

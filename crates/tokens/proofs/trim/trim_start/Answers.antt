@@ -1,6 +1,5 @@
 -- Trimming what is left at i is trimming the line: a blank moves i on, any other byte or the end stops.
 use mathlib.Core.Path.{sym, ◌∙◌}
-use Prim.Native.Nat.{◌-◌}
 use native.Mathlib.Omega.{arith}
 use Rattle.tokens.proofs.TrimLaws.{start_more, start_stop, start_end}
 use Rattle.tokens.proofs.trim.trim_start.Goals as goal
