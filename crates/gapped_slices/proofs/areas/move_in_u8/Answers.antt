@@ -1,27 +1,21 @@
 -- The gap is moved in the part that is lent; where that is no part of the slice nothing changes.
--- the area is in the slice
-use lib.ListN.{length}
-use Rattle.gapped_slices.specs.Areas.{Lies}
 use Rattle.gapped_slices.proofs.AreaLaws.{moved_in, none_moved}
 use Rattle.gapped_slices.proofs.areas.move_in_u8.Goals as goal
 
-lies : (p : goal.Then-is_area) → let a = p.args in Lies a.area (length a.bytes.now)
-lies p = p.is_area.ensures.0 p.if-is_area.true
-
 pub slice_bounds-move_gap_u8-count : goal.slice_bounds-move_gap_u8-count
-slice_bounds-move_gap_u8-count c = (lies c).ordered
+slice_bounds-move_gap_u8-count c = (c.is_area.ensures.0 c.if-is_area.true).ordered
 
 pub slice_bounds-move_gap_u8-start : goal.slice_bounds-move_gap_u8-start
-slice_bounds-move_gap_u8-start c = (lies c).ordered
+slice_bounds-move_gap_u8-start c = (c.is_area.ensures.0 c.if-is_area.true).ordered
 
 pub slice_bounds-move_gap_u8-end : goal.slice_bounds-move_gap_u8-end
-slice_bounds-move_gap_u8-end c = (lies c).inside
+slice_bounds-move_gap_u8-end c = (c.is_area.ensures.0 c.if-is_area.true).inside
 
 pub returns-then-is_area : goal.returns-then-is_area
 returns-then-is_area c =
     let a = c.args in
     let made = c.move_gap_u8 in
-    moved_in a.area a.front a.bytes.now made.new.bytes (lies c) made.ensures
+    moved_in a.area a.front a.bytes.now made.new.bytes (c.is_area.ensures.0 c.if-is_area.true) made.ensures
 
 pub returns-else-is_area : goal.returns-else-is_area
 returns-else-is_area c = let a = c.args in none_moved a.area a.front a.bytes.now (c.is_area.ensures.1 c.if-is_area.false)

@@ -1,31 +1,25 @@
 -- The entry is put into the part that is lent; where that is no part of the slice nothing changes.
--- the area is in the slice
-use lib.ListN.{length}
-use Rattle.gapped_slices.specs.Areas.{Lies}
 use Rattle.gapped_slices.proofs.AreaLaws.{put_in, none_put}
 use borrow.Author.Rules.{rules}
 use Rattle.gapped_slices.proofs.areas.put_in_f64.Goals as goal
 
-lies : (p : goal.Then-is_area) → let a = p.args in Lies a.area (length a.floats.now)
-lies p = p.is_area.ensures.0 p.if-is_area.true
-
 pub offset_bounds-floats-from : goal.offset_bounds-floats-from
-offset_bounds-floats-from c = let h = lies c in search rules
+offset_bounds-floats-from c = let h = c.is_area.ensures.0 c.if-is_area.true in search rules
 
 pub slice_bounds-put_f64-count : goal.slice_bounds-put_f64-count
-slice_bounds-put_f64-count c = (lies c).ordered
+slice_bounds-put_f64-count c = (c.is_area.ensures.0 c.if-is_area.true).ordered
 
 pub slice_bounds-put_f64-start : goal.slice_bounds-put_f64-start
-slice_bounds-put_f64-start c = (lies c).ordered
+slice_bounds-put_f64-start c = (c.is_area.ensures.0 c.if-is_area.true).ordered
 
 pub slice_bounds-put_f64-end : goal.slice_bounds-put_f64-end
-slice_bounds-put_f64-end c = (lies c).inside
+slice_bounds-put_f64-end c = (c.is_area.ensures.0 c.if-is_area.true).inside
 
 pub returns-then-is_area : goal.returns-then-is_area
 returns-then-is_area c =
     let a = c.args in
     let made = c.put_f64 in
-    put_in a.area a.at a.v a.floats.now made.new.floats (lies c) made.ensures
+    put_in a.area a.at a.v a.floats.now made.new.floats (c.is_area.ensures.0 c.if-is_area.true) made.ensures
 
 pub returns-else-is_area : goal.returns-else-is_area
 returns-else-is_area c = let a = c.args in none_put a.area a.at a.v a.floats.now (c.is_area.ensures.1 c.if-is_area.false)

@@ -1,5 +1,7 @@
 -- As `spot_in_key`, over pairs: an area lies in two slices where it lies in the shorter one.
--- the area is in both slices
+use Rattle.gapped_slices.specs.declared.areas.Area.{Area}
+use mathlib.Core.Path.{◌≡◌}
+use Prim.Native.Nat.{ℕ, min}
 use native.Mathlib.Omega.{arith}
 use lib.ListN.{length}
 use Rattle.gapped_slices.specs.Areas.{Lies, entriesIn}
@@ -7,43 +9,42 @@ use Rattle.gapped_slices.proofs.AreaLaws.{has_entries}
 use borrow.Author.Rules.{rules}
 use Rattle.gapped_slices.proofs.areas.spot_in.Goals as goal
 
-lies : (p : goal.Then-is_area) → let a = p.args in Lies a.area (length a.keys.now) × Lies a.area (length a.names.now)
-lies p =
-    let h = p.is_area.ensures.0 p.if-is_area.true in
-    let e = p.smaller.ensures in (
-      record { ordered = h.ordered; inside = omega (arith, h.inside, e); fits = h.fits },
-      record { ordered = h.ordered; inside = omega (arith, h.inside, e); fits = h.fits },
-    )
+-- the area is in both slices
+lies : (a : Area) (size m n : ℕ) → size ≡ min m n → Lies a size → Lies a m × Lies a n
+lies a size m n e h = (
+  record { ordered = h.ordered; inside = omega (arith, h.inside, e); fits = h.fits },
+  record { ordered = h.ordered; inside = omega (arith, h.inside, e); fits = h.fits },
+)
 
 pub offset_bounds-keys-from : goal.offset_bounds-keys-from
-offset_bounds-keys-from c = let h = (lies c).0 in search rules
+offset_bounds-keys-from c = let h = (lies c.args.area c.smaller.result (length c.args.keys.now) (length c.args.names.now) c.smaller.ensures (c.is_area.ensures.0 c.if-is_area.true)).0 in search rules
 
 pub slice_bounds-spot_of-count : goal.slice_bounds-spot_of-count
-slice_bounds-spot_of-count c = (lies c).0.ordered
+slice_bounds-spot_of-count c = (lies c.args.area c.smaller.result (length c.args.keys.now) (length c.args.names.now) c.smaller.ensures (c.is_area.ensures.0 c.if-is_area.true)).0.ordered
 
 pub slice_bounds-spot_of-start : goal.slice_bounds-spot_of-start
-slice_bounds-spot_of-start c = (lies c).0.ordered
+slice_bounds-spot_of-start c = (lies c.args.area c.smaller.result (length c.args.keys.now) (length c.args.names.now) c.smaller.ensures (c.is_area.ensures.0 c.if-is_area.true)).0.ordered
 
 pub slice_bounds-spot_of-end : goal.slice_bounds-spot_of-end
-slice_bounds-spot_of-end c = (lies c).0.inside
+slice_bounds-spot_of-end c = (lies c.args.area c.smaller.result (length c.args.keys.now) (length c.args.names.now) c.smaller.ensures (c.is_area.ensures.0 c.if-is_area.true)).0.inside
 
 pub offset_bounds-names-from : goal.offset_bounds-names-from
-offset_bounds-names-from c = let h = (lies c).1 in search rules
+offset_bounds-names-from c = let h = (lies c.args.area c.smaller.result (length c.args.keys.now) (length c.args.names.now) c.smaller.ensures (c.is_area.ensures.0 c.if-is_area.true)).1 in search rules
 
 pub slice_bounds-spot_of-count-then-is_area : goal.slice_bounds-spot_of-count-then-is_area
-slice_bounds-spot_of-count-then-is_area c = (lies c).1.ordered
+slice_bounds-spot_of-count-then-is_area c = (lies c.args.area c.smaller.result (length c.args.keys.now) (length c.args.names.now) c.smaller.ensures (c.is_area.ensures.0 c.if-is_area.true)).1.ordered
 
 pub slice_bounds-spot_of-start-then-is_area : goal.slice_bounds-spot_of-start-then-is_area
-slice_bounds-spot_of-start-then-is_area c = (lies c).1.ordered
+slice_bounds-spot_of-start-then-is_area c = (lies c.args.area c.smaller.result (length c.args.keys.now) (length c.args.names.now) c.smaller.ensures (c.is_area.ensures.0 c.if-is_area.true)).1.ordered
 
 pub slice_bounds-spot_of-end-then-is_area : goal.slice_bounds-spot_of-end-then-is_area
-slice_bounds-spot_of-end-then-is_area c = (lies c).1.inside
+slice_bounds-spot_of-end-then-is_area c = (lies c.args.area c.smaller.result (length c.args.keys.now) (length c.args.names.now) c.smaller.ensures (c.is_area.ensures.0 c.if-is_area.true)).1.inside
 
 pub returns-then-is_area : goal.returns-then-is_area
 unfolding entriesIn
 returns-then-is_area c =
     let a = c.args in
-    λ w v. c.spot_of_lem.ensures (has_entries a.area a.keys.now w) (has_entries a.area a.names.now v)
+    λ w v. c.spot_of.ensures (has_entries a.area a.keys.now w) (has_entries a.area a.names.now v)
 
 pub returns : goal.returns
 returns c =

@@ -1,25 +1,20 @@
 -- A spot in the part is one among the area's entries.
--- the area is in the slice
-use lib.ListN.{length}
-use Rattle.gapped_slices.specs.Areas.{Lies, entriesIn}
+use Rattle.gapped_slices.specs.Areas.{entriesIn}
 use Rattle.gapped_slices.proofs.AreaLaws.{has_entries}
 use borrow.Author.Rules.{rules}
 use Rattle.gapped_slices.proofs.areas.spot_in_key.Goals as goal
 
-lies : (p : goal.Then-is_area) → let a = p.args in Lies a.area (length a.keys.now)
-lies p = p.is_area.ensures.0 p.if-is_area.true
-
 pub offset_bounds-keys-from : goal.offset_bounds-keys-from
-offset_bounds-keys-from c = let h = lies c in search rules
+offset_bounds-keys-from c = let h = c.is_area.ensures.0 c.if-is_area.true in search rules
 
 pub slice_bounds-spot_of_key-count : goal.slice_bounds-spot_of_key-count
-slice_bounds-spot_of_key-count c = (lies c).ordered
+slice_bounds-spot_of_key-count c = (c.is_area.ensures.0 c.if-is_area.true).ordered
 
 pub slice_bounds-spot_of_key-start : goal.slice_bounds-spot_of_key-start
-slice_bounds-spot_of_key-start c = (lies c).ordered
+slice_bounds-spot_of_key-start c = (c.is_area.ensures.0 c.if-is_area.true).ordered
 
 pub slice_bounds-spot_of_key-end : goal.slice_bounds-spot_of_key-end
-slice_bounds-spot_of_key-end c = (lies c).inside
+slice_bounds-spot_of_key-end c = (c.is_area.ensures.0 c.if-is_area.true).inside
 
 pub returns-then-is_area : goal.returns-then-is_area
 unfolding entriesIn

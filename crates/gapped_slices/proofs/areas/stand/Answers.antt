@@ -1,21 +1,16 @@
 -- Before the gap an entry is counted from the area's start, and behind it from the end; no sum is past the end, which is a number of the machine.
--- the area makes sense
 use mathlib.Core.Path.{sym}
 use Prim.Native.Nat.{◌-◌, ◌≤◌, ◌<◌}
 use native.Mathlib.Nat.{le_refl}
 use native.Mathlib.Omega.{arith}
-use Rattle.gapped_slices.specs.Areas.{Lies}
 use Rattle.gapped_slices.proofs.AreaLaws.{stand_before, stand_behind}
 use Rattle.gapped_slices.proofs.areas.stand.Goals as goal
-
-lies : (p : goal.Then-is_area) → let a = p.args in Lies a.area a.area.to
-lies p = p.is_area.ensures.0 p.if-is_area.true
 
 pub overflow_add-result : goal.overflow_add-result
 overflow_add-result c =
     let a = c.args in
     let k : a.i < a.area.front = c.if-i-area.true in
-    record { fits = omega (arith, (lies c).ordered, (lies c).ranges, k, c.struct_known-then-i-area-1.given) }
+    record { fits = omega (arith, (c.is_area.ensures.0 c.if-is_area.true).ordered, (c.is_area.ensures.0 c.if-is_area.true).fits, k, c.struct_known-then-i-area-1.given) }
 
 pub returns-then-i-area : goal.returns-then-i-area
 returns-then-i-area c = let a = c.args in λ size w k. sym (stand_before a.area a.i c.if-i-area.true)
@@ -23,7 +18,7 @@ returns-then-i-area c = let a = c.args in λ size w k. sym (stand_before a.area 
 pub overflow_sub-result-then-over-area : goal.overflow_sub-result-then-over-area
 overflow_sub-result-then-over-area c =
     let a = c.args in
-    let h : a.area.behind ≤ a.area.to = omega (arith, (lies c).ranges) in
+    let h : a.area.behind ≤ a.area.to = omega (arith, (c.is_area.ensures.0 c.if-is_area.true).fits) in
     omega (arith, h)
 
 pub returns-then-over-area : goal.returns-then-over-area

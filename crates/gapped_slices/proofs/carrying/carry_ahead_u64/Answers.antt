@@ -1,6 +1,5 @@
 -- Each turn carries the first entry behind the gap to its front, so that the entries with the gap closed stay.
 use mathlib.Core.Path.{refl}
-use Prim.Native.Nat.{◌-◌}
 use native.Mathlib.Omega.{arith}
 use Rattle.gapped_slices.proofs.GapLaws.{carrying_starts, carrying_ahead, carrying_ends}
 use Rattle.gapped_slices.proofs.carrying.carry_ahead_u64.Goals as goal

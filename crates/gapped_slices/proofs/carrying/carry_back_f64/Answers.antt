@@ -1,6 +1,5 @@
 -- Each turn carries the last entry before the gap behind it, so that the entries with the gap closed stay.
 use mathlib.Core.Path.{refl}
-use Prim.Native.Nat.{◌-◌}
 use native.Mathlib.Omega.{arith}
 use Rattle.gapped_slices.proofs.GapLaws.{carrying_starts, carrying_back, carrying_ends}
 use Rattle.gapped_slices.proofs.carrying.carry_back_f64.Goals as goal

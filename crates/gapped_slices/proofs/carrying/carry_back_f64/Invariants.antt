@@ -1,4 +1,4 @@
-use Prim.Native.Nat.{◌-◌, ◌≤◌}
+use Prim.Native.Nat.{◌≤◌}
 use Rattle.gapped_slices.proofs.GapLaws.{Carrying}
 use Rattle.gapped_slices.proofs.carrying.carry_back_f64.Given as goal
 

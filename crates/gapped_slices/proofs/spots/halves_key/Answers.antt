@@ -1,6 +1,5 @@
 -- The spot is always from lo to hi, and each turn looks at the entry halfway: what it says leaves one half.
 use mathlib.Core.Path.{refl}
-use Prim.Native.Nat.{◌-◌}
 use native.Mathlib.Omega.{arith}
 use borrow.Author.Tests.{lt-ltb, le-ltb}
 use Rattle.field_slices.proofs.OrderLaws.{numbers}

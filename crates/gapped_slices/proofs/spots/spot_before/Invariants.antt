@@ -1,4 +1,3 @@
-use Prim.Native.Nat.{◌-◌}
 use lib.ListN.{take}
 use Rattle.field_slices.specs.Places.{pairs, below, Narrowed}
 use Rattle.gapped_slices.proofs.spots.spot_before.Given as goal

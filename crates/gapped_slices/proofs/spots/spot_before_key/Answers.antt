@@ -1,6 +1,7 @@
 -- All entries from i on are greater, and each turn looks at the last one before them. The halves go on with what is left before i.
+use mathlib.Core.List.{List}
 use mathlib.Core.Path.{◌≡◌, sym}
-use Prim.Native.Nat.{◌-◌}
+use Prim.Native.Nat.{◌-◌, ◌<◌, ◌≤◌, ℕ}
 use native.Mathlib.Omega.{arith}
 use lib.ListN.{take, get_or, length-take}
 use lib.Seq.{length-take-le, get_or-take}
@@ -11,20 +12,20 @@ use Rattle.gapped_slices.proofs.SpotLaws.{first_of, spotted_in, narrowed_in, spo
 use Rattle.gapped_slices.proofs.spots.spot_before_key.Goals as goal
 
 -- the last entry is what the code reads
-entry : (t : goal.In-loop-i) → let a = t.args in get_or (take a.front a.keys.now) (t.loop-i.i - 1) 0 ≡ get_or a.keys.now (t.loop-i.i - 1) 0
-entry t = let a = t.args in get_or-take a.front a.keys.now (t.loop-i.i - 1) 0 (omega arith)
+entry : (keys : List ℕ) (front i : ℕ) → 0 < i → i ≤ front → get_or (take front keys) (i - 1) 0 ≡ get_or keys (i - 1) 0
+entry keys front i z h = get_or-take front keys (i - 1) 0 (omega arith)
 
 pub loop-i-init : goal.loop-i-init
 loop-i-init c = narrowed_starts numbers 0 (length-take-le _ _ c.requires)
 
 pub returns-then-last-key : goal.returns-then-last-key
-returns-then-last-key c = spot_behind_last numbers 0 _ c.loop-i.invariant (omega arith) (entry c) (lt-ltb _ _ c.if-last-key.true)
+returns-then-last-key c = spot_behind_last numbers 0 _ c.loop-i.invariant (omega arith) (entry c.args.keys.now c.args.front c.loop-i.i (omega arith) (omega arith)) (lt-ltb _ _ c.if-last-key.true)
 
 pub returns-then-last-key-2 : goal.returns-then-last-key-2
-returns-then-last-key-2 c = let a = c.args in let x = get_or a.keys.now (c.loop-i.i - 1) 0 in spot_last numbers 0 _ c.loop-i.invariant (omega arith) (entry c) (le-ltb x a.key (omega arith)) (le-ltb a.key x (omega arith))
+returns-then-last-key-2 c = let a = c.args in let x = get_or a.keys.now (c.loop-i.i - 1) 0 in spot_last numbers 0 _ c.loop-i.invariant (omega arith) (entry c.args.keys.now c.args.front c.loop-i.i (omega arith) (omega arith)) (le-ltb x a.key (omega arith)) (le-ltb a.key x (omega arith))
 
 pub loop-i-preserved : goal.loop-i-preserved
-loop-i-preserved c = let a = c.args in let x = get_or a.keys.now (c.loop-i.i - 1) 0 in narrowed_down numbers 0 c.loop-i.invariant (omega arith) (omega arith) (entry c) (lt-ltb a.key x (omega arith))
+loop-i-preserved c = let a = c.args in let x = get_or a.keys.now (c.loop-i.i - 1) 0 in narrowed_down numbers 0 c.loop-i.invariant (omega arith) (omega arith) (entry c.args.keys.now c.args.front c.loop-i.i (omega arith) (omega arith)) (lt-ltb a.key x (omega arith))
 
 pub halves_key-requires : goal.halves_key-requires
 halves_key-requires c = let a = c.args in narrowed_in (first_of a.keys.now a.front) (omega (arith, length-take (a.front - 0) a.keys.now)) c.loop-i.invariant

@@ -1,4 +1,3 @@
-use Prim.Native.Nat.{◌-◌}
 use lib.Dec.{ltb}
 use lib.ListN.{take}
 use Rattle.field_slices.specs.Places.{Narrowed}

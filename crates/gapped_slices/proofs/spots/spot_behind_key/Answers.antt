@@ -1,6 +1,5 @@
 -- All entries before i are less, and each turn looks at the next one. The halves go on with what is left from i on.
 use mathlib.Core.Path.{refl}
-use Prim.Native.Nat.{◌-◌}
 use native.Mathlib.Omega.{arith}
 use lib.ListN.{get_or}
 use borrow.Author.Tests.{lt-ltb, le-ltb}

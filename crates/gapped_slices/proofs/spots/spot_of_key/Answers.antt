@@ -1,8 +1,9 @@
 -- A spot among those before the gap is the spot, unless it is behind all of them: then the entries behind the gap decide.
--- the slice has these entries
-use mathlib.Core.Path.{sym, ◌∙◌}
+use lib.Dec.{leb}
+use mathlib.Core.Bool.{Bool, true}
+use mathlib.Core.Path.{sym, ◌∙◌, ◌≡◌}
 use mathlib.Core.Logic.{inl, inr}
-use Prim.Native.Nat.{◌+◌, ◌-◌, ◌≤◌}
+use Prim.Native.Nat.{◌+◌, ◌-◌, ◌≤◌, ℕ}
 use native.Mathlib.Omega.{arith}
 use lib.ListN.{length, take, drop, length-take, length-drop}
 use lib.Seq.{length-take-le}
@@ -12,14 +13,15 @@ use Rattle.field_slices.proofs.OrderLaws.{numbers}
 use Rattle.gapped_slices.proofs.SpotLaws.{rest_of, spotted_in, spot_in_first, spot_in_second}
 use Rattle.gapped_slices.proofs.spots.spot_of_key.Goals as goal
 
-roomy : (p : goal.Else-not-is_within) → let a = p.args in a.front + a.behind ≤ length a.keys.now
-roomy p = let a = p.args in leb-true (a.front + a.behind) (length a.keys.now) (sym p.is_within.ensures ∙ p.if-not-is_within.false)
+-- the slice has these entries
+roomy : (front behind size : ℕ) {b : Bool} → b ≡ leb (front + behind) size → b ≡ true → front + behind ≤ size
+roomy front behind size e h = leb-true (front + behind) size (sym e ∙ h)
 
 pub returns-then-not-is_within : goal.returns-then-not-is_within
 returns-then-not-is_within c = let a = c.args in λ w. absurd (omega (arith, w, leb-false (a.front + a.behind) (length a.keys.now) (sym c.is_within.ensures ∙ c.if-not-is_within.true)))
 
 pub spot_before_key-spot-requires : goal.spot_before_key-spot-requires
-spot_before_key-spot-requires c = omega (arith, roomy c)
+spot_before_key-spot-requires c = omega (arith, roomy c.args.front c.args.behind (length c.args.keys.now) c.is_within.ensures c.if-not-is_within.false)
 
 pub returns-then-not-spot : goal.returns-then-not-spot
 unfolding closed
@@ -38,14 +40,14 @@ returns-then-spot-front c =
     spot.result spot.ensures (inr c.if-spot-front.true)
 
 pub overflow_sub-start : goal.overflow_sub-start
-overflow_sub-start c = omega (arith, roomy c)
+overflow_sub-start c = omega (arith, roomy c.args.front c.args.behind (length c.args.keys.now) c.is_within.ensures c.if-not-is_within.false)
 
 pub overflow_add-result : goal.overflow_add-result
 overflow_add-result c =
     let a = c.args in
     let start = length a.keys.now - a.behind in
     record {
-      fits = omega (arith, roomy c, c.spot_behind_key-rest.ensures.inside, length-take (length a.keys.now - start) (drop start a.keys.now), length-drop start a.keys.now);
+      fits = omega (arith, roomy c.args.front c.args.behind (length c.args.keys.now) c.is_within.ensures c.if-not-is_within.false, c.spot_behind_key-rest.ensures.inside, length-take (length a.keys.now - start) (drop start a.keys.now), length-drop start a.keys.now);
     }
 
 pub returns : goal.returns
