@@ -19,40 +19,40 @@ read_at : (f : ℕ → ℕ) (l m : List ℕ) → map f l ≡ m → f 0 ≡ 0 →
 read_at f l m test none i = sym (get_or-map f l i 0) ∙ ap (get_or (map f l) i) none ∙ ap (λ (k : List ℕ). get_or k i 0) test
 
 -- ---- the tests, as truth values, which are computed faster than equations of lists
-abbrev name_in : ℕ → ℕ
-name_in n = n / 2 ^ 32 * 2 ^ 32
+abbrev row_name : ℕ → ℕ
+row_name n = n / 2 ^ 32 * 2 ^ 32
 
-abbrev target_in : ℕ → ℕ
-target_in n = n % 2 ^ 32 / 256 * 2 ^ 40
+abbrev row_target : ℕ → ℕ
+row_target n = n % 2 ^ 32 / 256 * 2 ^ 40
 
-abbrev code_in : ℕ → ℕ
-code_in n = n % 256
+abbrev row_code : ℕ → ℕ
+row_code n = n % 256
 
-names_in : same_bytes (map name_in row_numbers) (names in_order) ≡ true
+names_in : same_bytes (map row_name row_numbers) (names in_order) ≡ true
 unfolding same_bytes put sorted in_order names row_numbers canonical aliases packed_in residue_code
 names_in = refl
 
-targets_in : same_bytes (map target_in row_numbers) (targets in_order) ≡ true
+targets_in : same_bytes (map row_target row_numbers) (targets in_order) ≡ true
 unfolding same_bytes put sorted in_order targets row_numbers canonical aliases packed_in residue_code
 targets_in = refl
 
-codes_in : same_bytes (map code_in row_numbers) (codes in_order) ≡ true
+codes_in : same_bytes (map row_code row_numbers) (codes in_order) ≡ true
 unfolding same_bytes put sorted in_order codes row_numbers canonical aliases packed_in residue_code
 codes_in = refl
 
 -- ---- at a place
-pub name_in : (i : ℕ) → name_in (get_or row_numbers i 0) ≡ get_or (names in_order) i 0
-name_in i = read_at name_in row_numbers (names in_order) (same_equal (map name_in row_numbers) (names in_order) names_in) refl i
+pub name_in : (i : ℕ) → row_name (get_or row_numbers i 0) ≡ get_or (names in_order) i 0
+name_in i = read_at row_name row_numbers (names in_order) (same_equal (map row_name row_numbers) (names in_order) names_in) refl i
 
-target_in : (i : ℕ) → target_in (get_or row_numbers i 0) ≡ get_or (targets in_order) i 0
-target_in i = read_at target_in row_numbers (targets in_order) (same_equal (map target_in row_numbers) (targets in_order) targets_in) refl i
+target_in : (i : ℕ) → row_target (get_or row_numbers i 0) ≡ get_or (targets in_order) i 0
+target_in i = read_at row_target row_numbers (targets in_order) (same_equal (map row_target row_numbers) (targets in_order) targets_in) refl i
 
-code_in : (i : ℕ) → code_in (get_or row_numbers i 0) ≡ get_or (codes in_order) i 0
-code_in i = read_at code_in row_numbers (codes in_order) (same_equal (map code_in row_numbers) (codes in_order) codes_in) refl i
+code_in : (i : ℕ) → row_code (get_or row_numbers i 0) ≡ get_or (codes in_order) i 0
+code_in i = read_at row_code row_numbers (codes in_order) (same_equal (map row_code row_numbers) (codes in_order) codes_in) refl i
 
 -- what the row at a name's place says of the name
 pub resolved_by : (n i row : ℕ) → place_of n (names in_order) ≡ At i → row ≡ get_or row_numbers i 0 → resolve_of n ≡ answer (row % 2 ^ 32 / 256 * 2 ^ 40) (residue_of (row % 256))
 resolved_by n i row p e =
     resolved_at n i p
-    ∙ ap (λ (t : ℕ). answer t (residue_of (get_or (codes in_order) i 0))) (sym (ap target_in e ∙ target_in i))
-    ∙ ap (λ (k : ℕ). answer (target_in row) (residue_of k)) (sym (ap code_in e ∙ code_in i))
+    ∙ ap (λ (t : ℕ). answer t (residue_of (get_or (codes in_order) i 0))) (sym (ap row_target e ∙ target_in i))
+    ∙ ap (λ (k : ℕ). answer (row_target row) (residue_of k)) (sym (ap row_code e ∙ code_in i))

@@ -1,6 +1,6 @@
 -- The number made of the bytes passed and the bytes to come make the whole name's number; past the end a byte is 0, in the text as in the number.
 use mathlib.Core.Path.{sym, ap, ◌∙◌}
-use Prim.Native.Nat.{ℕ, ◌+◌, ◌-◌, ◌*◌, ◌<◌}
+use Prim.Native.Nat.{ℕ, ◌+◌, ◌*◌}
 use native.Mathlib.Omega.{arith}
 use lib.Dec.{lit<}
 use borrow.Author.Rules.{rules}

@@ -1,6 +1,5 @@
 -- The place is always from lo to hi, and each turn looks at the name halfway: what it says leaves one half. The names ascend, so where none is left the name is not there.
 use mathlib.Core.Path.{sym}
-use Prim.Native.Nat.{◌-◌}
 use native.Mathlib.Omega.{arith}
 use borrow.Author.Tests.{lt-ltb, le-ltb}
 use Rattle.field_slices.proofs.OrderLaws.{numbers}
