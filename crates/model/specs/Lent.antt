@@ -1,6 +1,6 @@
 -- The lent slices, one to a field, and the model in them: chains, residues and atoms from the front, zeros past the counts.
 use Rattle.std.specs.Prelude.{List, [], ◌∷◌, ◌++◌, map, ℕ, zero, suc, ◌-◌, min, Float, length, get_or, take, replicate}
-use Rattle.std.specs.Borrow.{Bor}
+use Rattle.std.specs.Borrow.{MutBor}
 use denote.Triple.Both.{Both}
 use Rattle.rows.specs.declared.rules.Point3.{Point3}
 use Rattle.field_slices.specs.Clearing.{zero_float, zero_point}
@@ -49,7 +49,7 @@ abbrev pub lent : Slice ℕ → Slice ℕ → Slice ℕ → Slice ℕ → Slice 
 lent chains = lent_by (held chains)
 
 -- as they are passed
-abbrev pub passed : Bor (List ℕ) → Bor (List ℕ) → Bor (List ℕ) → Bor (List ℕ) → Bor (List ℕ) → Bor (List ℕ) → Bor (List ℕ) → Bor (List ℕ) → Bor (List ℕ) → Bor (List (List Float)) → Bor (List Float) → Lent
+abbrev pub passed : MutBor (List ℕ) → MutBor (List ℕ) → MutBor (List ℕ) → MutBor (List ℕ) → MutBor (List ℕ) → MutBor (List ℕ) → MutBor (List ℕ) → MutBor (List ℕ) → MutBor (List ℕ) → MutBor (List (List Float)) → MutBor (List Float) → Lent
 passed chains residue_keys residue_names residue_codes residue_categories residue_positions atom_keys atom_names elements positions occupancies =
     lent_of chains.now residue_keys.now residue_names.now residue_codes.now residue_categories.now residue_positions.now atom_keys.now atom_names.now elements.now positions.now occupancies.now
 
