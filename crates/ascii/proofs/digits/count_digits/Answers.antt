@@ -1,6 +1,6 @@
 -- The run of s is the i digits passed and the run of what is left: a digit moves one over, anything else or the end leaves none.
 use mathlib.Core.Path.{◌≡◌, sym, ◌∙◌}
-use Prim.Native.Nat.{suc, ◌+◌, ◌-◌}
+use Prim.Native.Nat.{suc, ◌+◌}
 use native.Mathlib.Omega.{arith}
 use lib.ListN.{drop}
 use Rattle.ascii.specs.Digits.{digit_run}

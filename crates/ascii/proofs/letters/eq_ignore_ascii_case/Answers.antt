@@ -1,6 +1,5 @@
 -- While the bytes passed agree, s and t are alike exactly where what is left of them is; texts of two lengths are never alike.
 use mathlib.Core.Path.{sym, ◌∙◌}
-use Prim.Native.Nat.{◌-◌}
 use native.Mathlib.Omega.{arith}
 use Rattle.ascii.proofs.LetterLaws.{same_length, same_stop, same_more, same_end}
 use Rattle.ascii.proofs.letters.eq_ignore_ascii_case.Goals as goal

@@ -1,6 +1,5 @@
 -- The buffer has the i bytes copied so far; one store more is one byte more.
 use mathlib.Core.Path.{ap, ◌∙◌}
-use Prim.Native.Nat.{◌-◌}
 use native.Mathlib.Omega.{arith}
 use lib.ListN.{length}
 use lib.Seq.{length-sets}

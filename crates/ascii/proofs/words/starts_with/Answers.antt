@@ -1,6 +1,5 @@
 -- While the bytes passed agree, s begins with the prefix exactly where what is left of the one begins with what is left of the other.
 use mathlib.Core.Path.{sym, ◌∙◌}
-use Prim.Native.Nat.{◌-◌}
 use native.Mathlib.Omega.{arith}
 use Rattle.ascii.proofs.WordLaws.{starts_short, starts_stop, starts_more, starts_end}
 use Rattle.ascii.proofs.words.starts_with.Goals as goal
