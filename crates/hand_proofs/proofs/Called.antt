@@ -6,7 +6,7 @@
 use mathlib.Core.Path.{◌≡◌, subst}
 use mathlib.Core.List.{List, [], ◌∷◌}
 use seplogic.Ra.Ura.{Ura}
-use mir.Syntax.{Name, Place, Opd as Operand, Body, seq, call}
+use mir.Syntax.{Callee, Place, Opd as Operand, Body, seq, call}
 use mir.Val.{Val}
 use base.Logic.{SProp, ent, sep, emp, id⊢}
 use base.Fml.{Lft, Share, Fml, fsep, flft}
@@ -70,7 +70,7 @@ module _ {M : Type 1} {𝓤 : Ura M} {𝓛 : Logic 𝓤} {K : Type 0} (t : K) (T
       use1 𝓛 (Returned 𝓛 T c y w) (id⊢ 𝓤 _) $ await t z $ pick t (λ r. split t $ move t (1 ∷ []) $ pick t (λ ws. split t $ move t (1 ∷ []) $
       use1 𝓛 (raw (fact 𝓤 (φ r ws))) (subst (λ (P : SProp 𝓤). ent 𝓤 (Said 𝓛 T c y r ws) P) (says r ws) (id⊢ 𝓤 _)) $ heard t (φ r ws) (λ e. move t (1 ∷ []) $ split t $ move t (1 ∷ []) $ k r ws e)))
 
-  module _ {Γ : List (Item 𝓤)} {E : Env 𝓤 H} {C : Calls 𝓤 H} {Λ : Loops 𝓤 H} {q : Post 𝓤 H} {f : Name} {xs : List Operand} {d : Place} where
+  module _ {Γ : List (Item 𝓤)} {E : Env 𝓤 H} {C : Calls 𝓤 H} {Λ : Loops 𝓤 H} {q : Post 𝓤 H} {f : Callee} {xs : List Operand} {d : Place} where
     pub calls_told : {rest : Body} → FmC 𝓤 H 𝓛.laws C → Triple 𝓤 (C f) (Meant 𝓛 T c) → Opds K 𝓛 (raw ((Meant 𝓛 T c).pre y) ∷ Γ) E xs ((Meant 𝓛 T c).args y) → States 𝓛 T c y φ
         → ((w : Val) (r : Result 𝓛 T c y) (ws : Ends 𝓛 T c y) → φ r ws → Seq K 𝓛 (back 𝓛 T c y Γ w r ws) (lands C Λ E d w rest q)) → Seq K 𝓛 (raw ((Meant 𝓛 T c).pre y) ∷ Γ) (runs C Λ E (seq (call f xs d) rest) q)
     calls_told fm known given says k = calls_at t fm (Meant 𝓛 T c) known y given (λ w. hears tt says w (k w))

@@ -15,7 +15,7 @@ use mathlib.Core.List.{List, []}
 use lib.Dec.{T as Holds, ltb, ltb→lt, nltb→le}
 use lib.WfN.{lt-wf_rel}
 use seplogic.Ra.Ura.{Ura}
-use seplogic.Ra.TreeShare.{full_share}
+use base.Fraction.{full_share}
 use mir.Syntax.{Ty, Body, place, copy, op2, lt, unsigned, seq, assign, cond, skip, exit, block, loop, w64, ty_int, ty_bool}
 use mir.Val.{vbool, vint}
 use base.Logic.{SProp}

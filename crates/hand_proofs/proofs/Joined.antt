@@ -9,7 +9,7 @@ use mir.Syntax.{Opd as Operand, Body, seq, cond}
 use mir.Val.{vbool}
 use prog.Wp.{Env, Calls, Loops, Wp, after_seq}
 use types.Logic.{Logic}
-use types.Kit.{Item, Post, Seq, Step, step, runs, prop, any_q, post, ◌$◌}
+use types.Kit.{Item, Post, Step, step, runs, prop, any_q, post, ◌$◌}
 use types.Run.{Opd, first, branches}
 
 module _ {M : Type 1} {𝓤 : Ura M} {𝓛 : Logic 𝓤} {K : Type 0} {Γ Γ' : List (Item 𝓤)} {E : Env 𝓤 𝓛.H} {C : Calls 𝓤 𝓛.H} {Λ : Loops 𝓤 𝓛.H} {q : Post 𝓤 𝓛.H} where

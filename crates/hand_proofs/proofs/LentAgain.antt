@@ -7,27 +7,27 @@
 --     lends_each       they are lent again for a lifetime ν, under names δs.        back_each    ν is ended, and they are back at their last lists
 --     last_all         the holder gives them up, for what says their last lists
 -- The steps and their laws assume `Logic`. The rest assumes nothing.
-use mathlib.Core.Path.{◌≡◌, refl, sym, ◌∙◌, ap, subst}
+use mathlib.Core.Path.{refl, sym, ◌∙◌, ap, subst}
 use Prim.Native.Nat.{ℕ}
 use mathlib.Core.List.{List, [], ◌∷◌}
 use lib.ListN.{length}
 use seplogic.Ra.Ura.{Ura}
-use seplogic.Ra.TreeShare.{full_share}
+use base.Fraction.{full_share}
 use mir.Syntax.{named}
-use mir.Val.{Val, Vals, vunit, vbool, vint, vfloat, vptr, vstruct, vnil, as_int}
+use mir.Val.{Val, Vals, vunit, vbool, vint, vfloat, vptr, vstruct, vcode, vnil, as_int}
 use mir.Fields.{get_v}
 use base.Logic.{ent, sep, ex, emp, via, emp∗, comm∗}
-use base.Fml.{Lft, GName, Share, Fml, ftrue, fsep, flft, fdead, fobs, fauth, fres, flent, fobor, feq}
+use base.Fml.{Lft, GName, Share, Fml, fsep, flft, fdead, fobs, fauth, fres, flent, fobor, feq}
 use types.Logic.{Logic, sem}
 use contract.Lifetimes.{Lfts, Shares, toks}
-use types.Kit.{Goal, Soaks, Item, ‵, raw, ◌⊛◌, some, later, ◌$◌, ◌∵◌, !, qed, Seq, Step, step, by, move, keep, use1, use2, use3, drop, split, join, pick, rewrite, fsplit, fjoin, feq_l, feq_i, frame, await, updating, now as at_once, show, done}
+use types.Kit.{Goal, Soaks, Item, ‵, raw, ◌⊛◌, some, later, ◌$◌, ◌∵◌, !, qed, Seq, Step, step, by, move, keep, use1, use2, use3, drop, split, pick, rewrite, fsplit, fjoin, feq_l, feq_i, frame, await, updating, now as at_once, show, done}
 use types.Tokens.{lft_new, lft_end}
 use types.SemTy.{cells, Arr}
 use denote.RattleType.{RattleType}
 use denote.Shadow.{pure_l, pure_i}
 use denote.Memory.{mem}
 use denote.Ref.{MutBor, at_last}
-use denote.Slice.{MutSlice, Room, heres, finally, mut_slice_vals, slice_val, mut_slice_at, coded_holeys, res-finally, mut_slice_Fixes}
+use denote.Slice.{MutSlice, Room, heres, finally, mut_slice_vals, slice_val, mut_slice_at, coded_holeys, res-finally}
 use denote.Lend.{Held, lends_slice, slice_back}
 use denote.Index.{row, whole_out, whole_in, opens_slice, closes_slice}
 
@@ -158,6 +158,7 @@ fields (vint w n) = vnil
 fields (vfloat f x) = vnil
 fields (vptr b o) = vnil
 fields (vstruct vs) = vs
+fields (vcode c) = vnil
 
 abbrev count : List Val → ℕ
 count [] = 0

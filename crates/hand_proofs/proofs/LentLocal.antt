@@ -2,14 +2,14 @@
 --     array_in     a cell with an array's machine value, and what the array owns, are the array in memory.        array_room   and that is room again
 --     array_size   an array in memory has its length
 --     lends_mut    what lies in memory is lent by `&mut` for a lifetime that is made for it.        mut_back     the lifetime is ended, and it is back at its last value
---     lends_imm, imm_back      the same by `&`
+--     lends_imm, imm_back      the same by `&`, of a type that is lent so with no token
 -- Assumes `Logic`.
 use mathlib.Core.Path.{◌≡◌, refl}
 use Prim.Native.Nat.{ℕ}
 use mathlib.Core.List.{List, [], ◌∷◌}
 use lib.ListN.{length}
 use seplogic.Ra.Ura.{Ura}
-use seplogic.Ra.TreeShare.{full_share}
+use base.Fraction.{full_share}
 use mir.Syntax.{named, ty_array}
 use mir.Val.{Val, vptr}
 use base.Logic.{via}
@@ -20,10 +20,11 @@ use types.Tokens.{lft_new, lft_end, lent_back}
 use types.SemTy.{Body}
 use denote.RattleType.{RattleType}
 use denote.Laws.{Is, shows}
-use denote.Memory.{lone, mem, part_at, part_of, cell_at}
+use denote.Memory.{lone, mem, part_at, part_of, cell_at, shared_of}
 use denote.Ref.{MutRef, ShrRef}
 use denote.Array.{Array, array_val}
-use denote.Lend.{lends_ref, ref_back, lends_shr}
+use denote.Lend.{lends_ref, ref_back, lends_free}
+use denote.Lends.{Lent}
 use denote.Steps.{peeks, facts}
 
 -- a cell, and what an array owns at the cell's machine values
@@ -57,11 +58,13 @@ module _ {M : Type 1} {𝓤 : Ura M} {𝓛 : Logic 𝓤} {K : Type 0} {Γ : List
     pub mut_back : {α : ℕ} {δ : GName} → Step K 𝓛 (‵ (part_at R full_share h b o) ∷ Γ) G (‵ (flft (α ∷ []) full_share) ∷ ‵ (flent (α ∷ []) (Body (mem R) b o δ)) ∷ ‵ (fres δ (R.coded.code h)) ∷ Γ) G
     mut_back {α} {δ} = step (λ s. lft_end t z $ use3 𝓛 (later (‵ (part_at R full_share h b o))) (ref_back 𝓛 R (α ∷ []) δ h b o) $ await t z $ s)
 
-    pub lends_imm : ((α : ℕ) (δ : GName) → Seq K 𝓛 (‵ (flft (α ∷ []) full_share) ∷ ‵ ((ShrRef (named 0) (α ∷ []) R).own_val (record { ref_ptr = (b, o); now = h }) (vptr b o ∷ [])) ∷ ‵ (flent (α ∷ []) (part_at R full_share h b o)) ∷ Γ) G)
+    -- where R is lent as `&` with no token: not every type's `&` is made of the memory alone
+    pub lends_imm : Lent 𝓛 (part_at R full_share h b o) (shared_of R h b o)
+        → ((α : ℕ) → Seq K 𝓛 (‵ (flft (α ∷ []) full_share) ∷ ‵ ((ShrRef (named 0) (α ∷ []) R).own_val (record { ref_ptr = (b, o); now = h }) (vptr b o ∷ [])) ∷ ‵ (flent (α ∷ []) (part_at R full_share h b o)) ∷ Γ) G)
         → Seq K 𝓛 (‵ (part_at R full_share h b o) ∷ Γ) G
-    lends_imm k = lft_new t z (λ α. move t (1 ∷ []) $
-        use1 𝓛 (later (some (λ (δ : GName). ‵ ((ShrRef (named 0) (α ∷ []) R).own_val (record { ref_ptr = (b, o); now = h }) (vptr b o ∷ [])) ⊛ ‵ (flent (α ∷ []) (part_at R full_share h b o))))) (lends_shr 𝓛 R (named 0) (α ∷ []) full_share h b o) $
-        await t z $ pick t (λ δ. split t $ move t (2 ∷ []) $ k α δ))
+    lends_imm free k = lft_new t z (λ α. move t (1 ∷ []) $
+        use1 𝓛 (later (‵ ((ShrRef (named 0) (α ∷ []) R).own_val (record { ref_ptr = (b, o); now = h }) (vptr b o ∷ [])) ⊛ ‵ (flent (α ∷ []) (part_at R full_share h b o)))) (lends_free 𝓛 R (named 0) (α ∷ []) full_share h b o free) $
+        await t z $ split t $ move t (2 ∷ []) $ k α)
 
     pub imm_back : {α : ℕ} → Step K 𝓛 (‵ (part_at R full_share h b o) ∷ Γ) G (‵ (flft (α ∷ []) full_share) ∷ ‵ (flent (α ∷ []) (part_at R full_share h b o)) ∷ Γ) G
     imm_back = step (λ s. lft_end t z $ lent_back t z $ s)

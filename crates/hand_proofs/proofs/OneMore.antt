@@ -36,10 +36,10 @@ module _ {n : ℕ} (s : Slot n) (κs : Lfts n) where
 
   module _ {M : Type 1} {𝓤 : Ura M} (𝓛 : Logic 𝓤) where
     pub owns_more : (ss : List (Slot n)) (a : Denots (types_at ss κs)) (vss : Valss (types_at ss κs)) (x : (s.row κs).Denot) (vs : List Val)
-        → ent 𝓤 (sep 𝓤 (sem 𝓛 ((s.row κs).own x vs)) (sem 𝓛 (owns (types_at ss κs) a vss))) (sem 𝓛 (owns (types_at (ss ++ (s ∷ [])) κs) (with-more ss a x) (vals-more ss vss vs)))
+        → ent 𝓤 (sep 𝓤 (sem 𝓛 ((s.row κs).own_val x vs)) (sem 𝓛 (owns (types_at ss κs) a vss))) (sem 𝓛 (owns (types_at (ss ++ (s ∷ [])) κs) (with-more ss a x) (vals-more ss vss vs)))
     owns_more [] a vss x vs = id⊢ 𝓤 _
     owns_more (t ∷ ss) a vss x vs =
-        qed 𝓛 (‵ ((s.row κs).own x vs) ∷ ‵ ((t.row κs).own a.0 vss.0) ∷ ‵ (owns (types_at ss κs) a.1 vss.1) ∷ []) ∵ move ! (0 ∷ 2 ∷ []) $
+        qed 𝓛 (‵ ((s.row κs).own_val x vs) ∷ ‵ ((t.row κs).own_val a.0 vss.0) ∷ ‵ (owns (types_at ss κs) a.1 vss.1) ∷ []) ∵ move ! (0 ∷ 2 ∷ []) $
         use2 𝓛 (‵ (owns (types_at (ss ++ (s ∷ [])) κs) (with-more ss a.1 x) (vals-more ss vss.1 vs))) (owns_more ss a.1 vss.1 x vs) $ move ! (1 ∷ 0 ∷ []) $ fjoin ! $ done !
 
     pub says_but : (ss : List (Slot n)) (ks : Kepts (ss ++ (s ∷ []))) (a : Denots (types_at ss κs)) (x : (s.row κs).Denot) (ws : Fins κs (ss ++ (s ∷ [])) ks (with-more ss a x))

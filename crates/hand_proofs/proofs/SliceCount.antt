@@ -5,7 +5,7 @@ use mathlib.Core.Path.{◌≡◌, sym, subst, refl}
 use Prim.Native.Nat.{ℕ, zero, ◌<◌, ◌^◌}
 use mathlib.Core.List.{List, [], ◌∷◌}
 use seplogic.Ra.Ura.{Ura}
-use seplogic.Ra.TreeShare.{full_share}
+use base.Fraction.{full_share}
 use mir.Syntax.{Lifetime, Mutability, Ty, ty_int, ty_ref, place, field, copy, rv_opd, Body, seq, assign, w64}
 use mir.Val.{vint}
 use base.Fml.{fat, froom}

@@ -9,7 +9,7 @@ use mathlib.Core.WellFounded.{WellFounded}
 use Prim.Native.Nat.{ℕ, zero}
 use mathlib.Core.List.{List, []}
 use seplogic.Ra.Ura.{Ura}
-use seplogic.Ra.TreeShare.{full_share}
+use base.Fraction.{full_share}
 use mir.Syntax.{Body, place, copy, seq, cond, skip, exit, block, loop, ty_bool}
 use mir.Val.{vbool}
 use base.Logic.{SProp}
