@@ -10,7 +10,7 @@ use Rattle.rows.proofs.fields.element_at.Goals as goal
 
 pub returns-then-is_absent : goal.returns-then-is_absent
 unfolding element_at
-returns-then-is_absent c = by_true _ _ c.is_absent.ensures c.if-is_absent.true
+returns-then-is_absent c line held = by_true _ _ c.is_absent.ensures c.if-is_absent.true
 
 pub slice_bounds-element_of-count : goal.slice_bounds-element_of-count
 slice_bounds-element_of-count c = c.part_at-part.ensures.ordered
@@ -23,6 +23,6 @@ slice_bounds-element_of-end c = c.part_at-part.ensures.within
 
 pub returns : goal.returns
 unfolding element_at
-returns c =
+returns c line held =
     let small : c.args.column < 256 = omega arith in
     c.element_of.ensures ∙ ap element_of (lent c.part_at-part.ensures small held) ∙ by_false _ _ c.is_absent.ensures c.if-is_absent.false

@@ -9,7 +9,7 @@ use Rattle.rows.proofs.fields.insertion_code_at.Goals as goal
 
 pub returns-then-is_absent : goal.returns-then-is_absent
 unfolding insertion_code_at
-returns-then-is_absent c = by_true _ _ c.is_absent.ensures c.if-is_absent.true
+returns-then-is_absent c line held = by_true _ _ c.is_absent.ensures c.if-is_absent.true
 
 pub slice_bounds-insertion_code_of-count : goal.slice_bounds-insertion_code_of-count
 slice_bounds-insertion_code_of-count c = c.part_at-part.ensures.ordered
@@ -22,6 +22,6 @@ slice_bounds-insertion_code_of-end c = c.part_at-part.ensures.within
 
 pub returns : goal.returns
 unfolding insertion_code_at
-returns c =
+returns c line held =
     let small : c.args.column < 256 = omega arith in
     c.insertion_code_of.ensures ∙ ap insertion_code_of (lent c.part_at-part.ensures small held) ∙ by_false _ _ c.is_absent.ensures c.if-is_absent.false

@@ -16,6 +16,6 @@ pub slice_bounds-measure_of-end : goal.slice_bounds-measure_of-end
 slice_bounds-measure_of-end c = c.part_at-part.ensures.within
 
 pub returns : goal.returns
-returns c =
+returns c line held =
     let small : c.args.column < 256 = omega arith in
     c.measure_of.ensures ∙ ap measure_of (lent c.part_at-part.ensures small held)

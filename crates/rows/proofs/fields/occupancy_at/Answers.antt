@@ -6,8 +6,8 @@ use Rattle.rows.proofs.fields.occupancy_at.Goals as goal
 
 pub returns-then-is_absent : goal.returns-then-is_absent
 unfolding occupancy_at
-returns-then-is_absent c = by_true _ _ c.is_absent.ensures c.if-is_absent.true
+returns-then-is_absent c line held = by_true _ _ c.is_absent.ensures c.if-is_absent.true
 
 pub returns : goal.returns
 unfolding occupancy_at
-returns c = c.measure_at.ensures line held ∙ by_false _ _ c.is_absent.ensures c.if-is_absent.false
+returns c line held = c.measure_at.ensures line held ∙ by_false _ _ c.is_absent.ensures c.if-is_absent.false
