@@ -11,7 +11,7 @@ loop-i-init c = classing_starts _ _ _ _ _ _
 pub returns-then-classify_residue : goal.returns-then-classify_residue
 returns-then-classify_residue c =
     let a = c.args in
-    classing_stops a.keys.now a.names.now a.codes.now a.categories.now (take a.atoms a.atom-keys.now) a.residues
+    classing_stops a.keys.now a.names.now a.codes.now a.categories.now (take a.atoms a.atom_keys.now) a.residues
     c.loop-i.invariant c.loop-i-test.true c.u64_at-key.ensures c.pass_lesser-at.ensures c.is_alone-lone.ensures
     c.classify_residue.ensures c.if-classify_residue.true
 
@@ -21,7 +21,7 @@ loop-i-smaller c = omega (arith, c.loop-i-test.true)
 pub loop-i-preserved : goal.loop-i-preserved
 loop-i-preserved c =
     let a = c.args in
-    classing_on a.keys.now a.names.now a.codes.now a.categories.now (take a.atoms a.atom-keys.now) a.residues
+    classing_on a.keys.now a.names.now a.codes.now a.categories.now (take a.atoms a.atom_keys.now) a.residues
     c.loop-i.invariant c.loop-i-test.true c.u64_at-key.ensures c.pass_lesser-at.ensures c.is_alone-lone.ensures
     c.classify_residue.ensures c.if-classify_residue.false
 

@@ -10,13 +10,13 @@ use Rattle.finishing.proofs.clearing.clear_records.Goals as goal
 abbrev entry : goal.Start → List ℕ → Lent
 entry s names = record {
   chains = names;
-  residue_keys = s.args.residue-keys.now;
-  residue_names = s.args.residue-names.now;
-  residue_codes = s.args.residue-codes.now;
-  residue_categories = s.args.residue-categories.now;
-  residue_positions = s.args.residue-positions.now;
-  atom_keys = s.args.atom-keys.now;
-  atom_names = s.args.atom-names.now;
+  residue_keys = s.args.residue_keys.now;
+  residue_names = s.args.residue_names.now;
+  residue_codes = s.args.residue_codes.now;
+  residue_categories = s.args.residue_categories.now;
+  residue_positions = s.args.residue_positions.now;
+  atom_keys = s.args.atom_keys.now;
+  atom_names = s.args.atom_names.now;
   elements = s.args.elements.now;
   positions = s.args.positions.now;
   occupancies = s.args.occupancies.now;

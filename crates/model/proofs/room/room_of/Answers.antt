@@ -13,13 +13,13 @@ returns c =
     let room : ℕ → Room = λ n.
     room_by
     n
-    (length a.residue-keys.now)
-    (length a.residue-names.now)
-    (length a.residue-codes.now)
-    (length a.residue-categories.now)
-    (length a.residue-positions.now)
-    (length a.atom-keys.now)
-    (length a.atom-names.now)
+    (length a.residue_keys.now)
+    (length a.residue_names.now)
+    (length a.residue_codes.now)
+    (length a.residue_categories.now)
+    (length a.residue_positions.now)
+    (length a.atom_keys.now)
+    (length a.atom_names.now)
     (length a.elements.now)
     (length a.positions.now)
     (length a.occupancies.now) in

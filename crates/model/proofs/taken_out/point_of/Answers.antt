@@ -7,7 +7,7 @@ use Rattle.model.proofs.taken_out.point_of.Goals as goal
 
 pub returns : goal.returns
 returns c =
-    let l = c.args.t1 in
+    let l = c.args.coordinates in
     λ i. record {
       x = get_d_any l 0 nan zero_float (search rules) i;
       y = get_d_any l 1 nan zero_float (search rules) i;

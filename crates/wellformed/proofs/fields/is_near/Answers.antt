@@ -11,20 +11,20 @@ use Rattle.wellformed.proofs.fields.is_near.Goals as goal
 
 pub returns-then-not-is_printable : goal.returns-then-not-is_printable
 returns-then-not-is_printable c =
-    let p = c.args.t1 in
+    let p = c.args.point in
     let x : printable (get_or p 0 zero_float) ≡ false = ap printable (get_d_any p 0 zero_float nan (omega arith)) ∙ sym c.is_printable.ensures ∙ c.if-not-is_printable.true in
     sym (rw x)
 
 pub returns-then-not-is_printable-2 : goal.returns-then-not-is_printable-2
 returns-then-not-is_printable-2 c =
-    let p = c.args.t1 in
+    let p = c.args.point in
     let x : printable (get_or p 0 zero_float) ≡ true = ap printable (get_d_any p 0 zero_float nan (omega arith)) ∙ sym c.is_printable.ensures ∙ c.if-not-is_printable.false in
     let y : printable (get_or p 1 zero_float) ≡ false = ap printable (get_d_any p 1 zero_float nan (omega arith)) ∙ sym c.is_printable-2.ensures ∙ c.if-not-is_printable-2.true in
     sym (rw (x, y))
 
 pub returns : goal.returns
 returns c =
-    let p = c.args.t1 in
+    let p = c.args.point in
     let x : printable (get_or p 0 zero_float) ≡ true = ap printable (get_d_any p 0 zero_float nan (omega arith)) ∙ sym c.is_printable.ensures ∙ c.if-not-is_printable.false in
     let y : printable (get_or p 1 zero_float) ≡ true = ap printable (get_d_any p 1 zero_float nan (omega arith)) ∙ sym c.is_printable-2.ensures ∙ c.if-not-is_printable-2.false in
     c.is_printable-3.ensures ∙ ap printable (get_d_any p 2 nan zero_float (omega arith)) ∙ sym (rw (x, y))

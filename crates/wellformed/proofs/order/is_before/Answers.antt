@@ -19,14 +19,14 @@ by_both k m key name g h =
 pub returns-then-key-next_key : goal.returns-then-key-next_key
 returns-then-key-next_key c =
     let a = c.args in
-    sym (lt-ltb (atom_place a.key a.name) (atom_place a.next-key a.next-name) (by_key _ _ _ _ (omega arith) c.if-key-next_key.true))
+    sym (lt-ltb (atom_place a.key a.name) (atom_place a.next_key a.next_name) (by_key _ _ _ _ (omega arith) c.if-key-next_key.true))
 
 pub returns-then-next_key-key : goal.returns-then-next_key-key
 returns-then-next_key-key c =
     let a = c.args in
-    sym (le-ltb (atom_place a.key a.name) (atom_place a.next-key a.next-name) (le_of_lt (by_key _ _ _ _ (omega arith) c.if-next_key-key.true)))
+    sym (le-ltb (atom_place a.key a.name) (atom_place a.next_key a.next_name) (le_of_lt (by_key _ _ _ _ (omega arith) c.if-next_key-key.true)))
 
 pub returns : goal.returns
 returns c =
     let a = c.args in
-    by_both a.key a.name a.next-key a.next-name c.if-next_key-key.false c.if-key-next_key.false
+    by_both a.key a.name a.next_key a.next_name c.if-next_key-key.false c.if-key-next_key.false

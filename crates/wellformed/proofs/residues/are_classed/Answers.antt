@@ -11,22 +11,22 @@ use Rattle.wellformed.proofs.residues.are_classed.Goals as goal
 pub loop-i-init : goal.loop-i-init
 loop-i-init c =
     let a = c.args in
-    ap (classed_from (take a.atom-count a.atom-keys.now) 0) (rest_all (classed_in a.residue-keys.now a.residue-names.now a.residue-codes.now a.residue-categories.now) a.residue-count)
+    ap (classed_from (take a.atom_count a.atom_keys.now) 0) (rest_all (classed_in a.residue_keys.now a.residue_names.now a.residue_codes.now a.residue_categories.now) a.residue_count)
 
 pub returns-then-not-is_classed : goal.returns-then-not-is_classed
 returns-then-not-is_classed c =
     let a = c.args in
     let l = c.loop-i in
-    sym (l.invariant ∙ classed_fails (take a.atom-count a.atom-keys.now) (classed_in a.residue-keys.now a.residue-names.now a.residue-codes.now a.residue-categories.now) a.residue-count l.from l.i c.loop-i-test.true _ c.pass_lesser-from.ensures _ c.is_alone-lone.ensures (sym c.is_classed.ensures ∙ c.if-not-is_classed.true))
+    sym (l.invariant ∙ classed_fails (take a.atom_count a.atom_keys.now) (classed_in a.residue_keys.now a.residue_names.now a.residue_codes.now a.residue_categories.now) a.residue_count l.from l.i c.loop-i-test.true _ c.pass_lesser-from.ensures _ c.is_alone-lone.ensures (sym c.is_classed.ensures ∙ c.if-not-is_classed.true))
 
 pub loop-i-preserved : goal.loop-i-preserved
 loop-i-preserved c =
     let a = c.args in
     let l = c.loop-i in
-    l.invariant ∙ classed_on (take a.atom-count a.atom-keys.now) (classed_in a.residue-keys.now a.residue-names.now a.residue-codes.now a.residue-categories.now) a.residue-count l.from l.i c.loop-i-test.true _ c.pass_lesser-from.ensures _ c.is_alone-lone.ensures (sym c.is_classed.ensures ∙ c.if-not-is_classed.false)
+    l.invariant ∙ classed_on (take a.atom_count a.atom_keys.now) (classed_in a.residue_keys.now a.residue_names.now a.residue_codes.now a.residue_categories.now) a.residue_count l.from l.i c.loop-i-test.true _ c.pass_lesser-from.ensures _ c.is_alone-lone.ensures (sym c.is_classed.ensures ∙ c.if-not-is_classed.false)
 
 pub returns : goal.returns
 returns c =
     let a = c.args in
     let l = c.loop-i in
-    sym (l.invariant ∙ classed_end (take a.atom-count a.atom-keys.now) (classed_in a.residue-keys.now a.residue-names.now a.residue-codes.now a.residue-categories.now) a.residue-count l.from l.i c.loop-i-test.false)
+    sym (l.invariant ∙ classed_end (take a.atom_count a.atom_keys.now) (classed_in a.residue_keys.now a.residue_names.now a.residue_codes.now a.residue_categories.now) a.residue_count l.from l.i c.loop-i-test.false)

@@ -11,13 +11,13 @@ abbrev lent : goal.Start → Lent
 lent s =
     lent_of
     s.args.chains.now
-    s.args.residue-keys.now
-    s.args.residue-names.now
-    s.args.residue-codes.now
-    s.args.residue-categories.now
-    s.args.residue-positions.now
-    s.args.atom-keys.now
-    s.args.atom-names.now
+    s.args.residue_keys.now
+    s.args.residue_names.now
+    s.args.residue_codes.now
+    s.args.residue_categories.now
+    s.args.residue_positions.now
+    s.args.atom_keys.now
+    s.args.atom_names.now
     s.args.elements.now
     s.args.positions.now
     s.args.occupancies.now
