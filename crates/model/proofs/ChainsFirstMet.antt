@@ -87,10 +87,10 @@ filter_filter p q r h (c ∷ l) = go (q c) refl (filter_filter p q r h l)
     go true w e = rw (h c, w) (ap (λ (n : List ℕ). cond (p c) (c ∷ n) n) e)
     go false w e = rw (h c, w) e
 
-met_after : (p : List ℕ) (l : List Site) → met_after p l ≡ p ++ without p (first_met l)
+met_after_lem : (p : List ℕ) (l : List Site) → met_after p l ≡ p ++ without p (first_met l)
 unfolding met_after first_met
-met_after p [] = sym (append-nil p)
-met_after p (s ∷ l) = met_after (with_chain s.chain p) l ∙ ap (λ (n : List ℕ). n ++ without n (first_met l)) (with_chain_lem s.chain p) ∙ go (is_met p s.chain) refl
+met_after_lem p [] = sym (append-nil p)
+met_after_lem p (s ∷ l) = met_after_lem (with_chain s.chain p) l ∙ ap (λ (n : List ℕ). n ++ without n (first_met l)) (with_chain_lem s.chain p) ∙ go (is_met p s.chain) refl
   where
     known : Met p s.chain → (x : ℕ) → not (is_met p x) ≡ cond (not (eqb x s.chain)) (not (is_met p x)) false
     known e x = at (eqb x s.chain) refl
@@ -119,19 +119,19 @@ met_after p (s ∷ l) = met_after (with_chain s.chain p) l ∙ ap (λ (n : List 
 
 -- a chain that is met keeps its place
 pub place_stays : (c : ℕ) (p : List ℕ) (l : List Site) → Met p c → chain_place c (met_after p l) ≡ chain_place c p
-place_stays c p l h = ap (chain_place c) (met_after p l) ∙ place_before c p (without p (first_met l)) h
+place_stays c p l h = ap (chain_place c) (met_after_lem p l) ∙ place_before c p (without p (first_met l)) h
 
 pub all_met : (p : List ℕ) (l : List Site) → All (λ (s : Site). Met (met_after p l) s.chain) l
 unfolding met_after
 all_met p [] = tt
 all_met p (s ∷ l) = (
-  rw (met_after (with_chain s.chain p) l) (met_before_lem s.chain (with_chain s.chain p) (without (with_chain s.chain p) (first_met l)) (met_here s.chain p)),
+  rw (met_after_lem (with_chain s.chain p) l) (met_before_lem s.chain (with_chain s.chain p) (without (with_chain s.chain p) (first_met l)) (met_here s.chain p)),
   all_met (with_chain s.chain p) l,
 )
 
 -- ---- the theorem
 pub chains_first_met : (l : List Site) → met_after [] l ≡ first_met l
-chains_first_met l = met_after [] l ∙ all (first_met l)
+chains_first_met l = met_after_lem [] l ∙ all (first_met l)
   where
     all : (l : List ℕ) → filter (λ c. true) l ≡ l
     all [] = refl

@@ -6,7 +6,6 @@ use Rattle.model.proofs.classes.class_by.Goals as goal
 
 pub returns-in-Standard : goal.returns-in-Standard
 returns-in-Standard c =
-    let r = c.resolved-1.given in
     let a = c.args in
     (λ i. record { name = c.in-Standard.target; code = c.code.ensures i; category = c.code-in-Standard.ensures i })
     ∙ sym (ap (λ resolved. class_by resolved a.name a.lone) c.in-Standard.is)

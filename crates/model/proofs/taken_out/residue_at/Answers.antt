@@ -12,7 +12,7 @@ returns c =
     let key = c.u64_at-key.ensures in
     let chain = c.chain_part.ensures ∙ ap chain_part key in
     let moved = c.sequence_part.ensures ∙ ap sequence_part key in
-    let sequence = to_z-of_z w32 _ (record { sfits = c.signed.type-inv }) ∙ c.signed.ensures ∙ ap signed moved in
+    let sequence = to_z-of_z w32 _ (record { sfits = c.signed.type_inv }) ∙ c.signed.ensures ∙ ap signed moved in
     let code = c.code_part.ensures ∙ ap code_part key in
     λ i. record {
       chain = chain i;
