@@ -1,6 +1,6 @@
 // The room for chains, residues and atoms: the sizes of document 01, and no more than the shortest slice has.
 ghost use Rattle.std.specs.Prelude.{List, ◌≡◌, ℕ, min, length};
-ghost use Rattle.model.specs.Lent.{lent_by, room_by, room_of, no_records};
+ghost use Rattle.model.specs.Lent.{lent_of, room_by, room_of, no_records};
 
 use field_slices::smaller;
 use refusals::RecordKind;
@@ -80,7 +80,7 @@ pub fn room_of(
     occupancies: &[f64],
 ) -> Room
     ensures { (names : List ℕ) → length names ≡ chains →
-        let l = (lent_by (record { entry = names; exit = names }) residue_keys residue_names residue_codes residue_categories residue_positions atom_keys atom_names elements positions occupancies).entry in
+        let l = lent_of names residue_keys.now residue_names.now residue_codes.now residue_categories.now residue_positions.now atom_keys.now atom_names.now elements.now positions.now occupancies.now in
         result ≡ room_of l }
 {
     room_by(

@@ -1,6 +1,5 @@
 -- What is left from index i on gives the answer, with those that are passed.
 use mathlib.Core.Path.{refl}
-use Prim.Native.Nat.{◌-◌}
 use native.Mathlib.Omega.{arith}
 use native.Mathlib.Numerals.{add-one}
 use Rattle.model.proofs.WalkTurns.{passed_all, passed_none, passed_one}

@@ -14,8 +14,10 @@ module _ (n : ℕ) (h : n < 2 ^ 32) where
   difference : to_z w64 n -ℤ pos (2 ^ 31) ≡ signed n
   unfolding signed
   difference = ap (λ (z : ℤ). z -ℤ pos (2 ^ 31)) (to_z_pos w64 n (omega arith))
+
   difference_fits : SFits w64 (to_z w64 n -ℤ pos (2 ^ 31))
   difference_fits = subst (SFits w64) (sym difference) (record { sfits = omega (arith, (signed_fits n h).sfits) })
+
   kept : to_z w64 (of_z w64 (to_z w64 n -ℤ pos (2 ^ 31))) ≡ signed n
   kept = to_z-of_z w64 _ difference_fits ∙ difference
 
