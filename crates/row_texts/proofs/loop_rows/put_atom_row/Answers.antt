@@ -1,6 +1,7 @@
 -- The four parts are put one after the other, and together are the row.
 use Prim.Native.Nat.{◌^◌, ◌<◌}
 use native.Mathlib.Omega.{arith}
+use borrow.Author.Rules.{rules}
 use lib.ListN.{length}
 use Rattle.row_texts.proofs.EmittedLaws.{then}
 use Rattle.row_texts.proofs.RowsInParts.{atom_in_parts}
@@ -13,5 +14,5 @@ returns c =
           rw (atom_in_parts c.args.row)
           (then c.put_labels-at.ensures (then c.put_numbering-at.ensures
           (then (c.put_position-at.ensures near) (λ _. c.put_author.ensures))) short),
-      same_length c,
+      search rules,
     )

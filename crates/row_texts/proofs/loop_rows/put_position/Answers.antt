@@ -11,7 +11,7 @@ use Rattle.row_texts.proofs.loop_rows.put_position.Goals as goal
 
 pub returns : goal.returns
 unfolding blanked
-returns c =
+returns c near =
     let short : length c.args.out.now < 2 ^ 64 = omega arith in
     let position = c.args.row.position in
     let near-x = printable position.x in

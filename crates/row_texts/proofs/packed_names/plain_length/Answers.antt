@@ -16,7 +16,7 @@ pub loop-rest-init : goal.loop-rest-init
 loop-rest-init c = (omega arith, refl)
 
 pub returns-then-first_byte-le39 : goal.returns-then-first_byte-le39
-returns-then-first_byte-le39 c = absurd (omega arith)
+returns-then-first_byte-le39 c h = absurd (omega arith)
 
 pub overflow_add-n : goal.overflow_add-n
 overflow_add-n c = omega (arith, less c, unpacked_short 8 c.args.name)

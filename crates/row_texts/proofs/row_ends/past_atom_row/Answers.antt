@@ -3,7 +3,7 @@ use Rattle.row_texts.proofs.RowLengths.{atom_length}
 use Rattle.row_texts.proofs.row_ends.past_atom_row.Goals as goal
 
 pub returns : goal.returns
-returns c =
+returns c near =
     let sum =
     atom_length c.args.row
     c.group_length-group.ensures
