@@ -1,6 +1,6 @@
 // Document 01: "A model is well formed if: ..".
 ghost use Rattle.std.specs.Prelude.{◌≡◌};
-ghost use Rattle.model.specs.Lent.{lent};
+ghost use Rattle.model.specs.Lent.{lent_of};
 ghost use Rattle.model.specs.WellFormed.{within, well_formed_in};
 ghost use Rattle.wellformed.specs.Slices.{Within, records_well};
 
@@ -94,7 +94,7 @@ pub fn is_well_formed(
     occupancies: &[f64],
     counts: Room,
 ) -> bool
-    ensures { let l = (lent chains residue_keys residue_names residue_codes residue_categories residue_positions atom_keys atom_names elements positions occupancies).entry in
+    ensures { let l = lent_of chains.now residue_keys.now residue_names.now residue_codes.now residue_categories.now residue_positions.now atom_keys.now atom_names.now elements.now positions.now occupancies.now in
         result ≡ well_formed_in l counts }
 {
     let room = room_of(

@@ -1,7 +1,6 @@
 -- All of them pass exactly where those from index i on do.
 use mathlib.Core.Path.{sym, ap, ◌∙◌}
 use mathlib.Core.List.{[]}
-use Prim.Native.Nat.{◌-◌}
 use native.Mathlib.Omega.{arith}
 use lib.ListN.{get_or}
 use Rattle.field_slices.specs.Clearing.{zero_point}

@@ -1,6 +1,5 @@
 -- All of them are names of chains exactly where those from index i on are.
 use mathlib.Core.Path.{sym, ap, ◌∙◌}
-use Prim.Native.Nat.{◌-◌}
 use Rattle.ascii.specs.Lists.{every}
 use Rattle.wellformed.specs.Slices.{entries, is_chain_name}
 use Rattle.wellformed.proofs.FromLaws.{rest_all, every_on, every_fails, every_end}

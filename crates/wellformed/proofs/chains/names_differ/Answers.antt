@@ -1,6 +1,5 @@
 -- All of them differ exactly where those from index i on do.
 use mathlib.Core.Path.{sym, ap, ◌∙◌}
-use Prim.Native.Nat.{◌-◌}
 use Rattle.model.specs.WellFormed.{differ}
 use Rattle.wellformed.specs.Slices.{entries}
 use Rattle.wellformed.proofs.FromLaws.{rest_all, differ_on, differ_fails, differ_end}

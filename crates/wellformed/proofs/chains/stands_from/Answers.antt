@@ -1,6 +1,5 @@
 -- The name stands among the chains exactly where it stands among those from index i on.
 use mathlib.Core.Path.{refl, sym, ◌∙◌}
-use Prim.Native.Nat.{◌-◌}
 use lib.Dec.{eqb}
 use borrow.Author.Tests.{eq-eqb, ne_eqb}
 use Rattle.wellformed.specs.Slices.{entries}

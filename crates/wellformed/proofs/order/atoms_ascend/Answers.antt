@@ -1,6 +1,5 @@
 -- All of them ascend exactly where those from the one before index i on do.
 use mathlib.Core.Path.{sym, ap, ◌∙◌}
-use Prim.Native.Nat.{◌-◌}
 use native.Mathlib.Omega.{arith}
 use borrow.Author.Tests.{ltb-true, ltb-false}
 use Rattle.names.specs.Places.{ascends}

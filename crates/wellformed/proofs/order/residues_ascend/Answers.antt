@@ -1,6 +1,5 @@
 -- All of them ascend exactly where those from the one before index i on do.
 use mathlib.Core.Path.{sym, ap, ◌∙◌}
-use Prim.Native.Nat.{◌-◌}
 use native.Mathlib.Omega.{arith}
 use Rattle.names.specs.Places.{ascends}
 use Rattle.wellformed.specs.Slices.{entries}

@@ -1,6 +1,5 @@
 -- What is left of the residues, with the atoms from where the walk stands on, passes exactly where all of them do.
 use mathlib.Core.Path.{sym, ap, ◌∙◌}
-use Prim.Native.Nat.{◌-◌}
 use lib.ListN.{take}
 use Rattle.wellformed.specs.Slices.{classed_in}
 use Rattle.wellformed.specs.Walks.{classed_from}

@@ -1,6 +1,5 @@
 -- What is left of the residues passes, with the chain that was met last, exactly where all of them do.
 use mathlib.Core.Path.{sym, ap, ◌∙◌}
-use Prim.Native.Nat.{◌-◌}
 use Rattle.wellformed.specs.Slices.{standing_in}
 use Rattle.wellformed.specs.Walks.{stands_from}
 use Rattle.wellformed.proofs.FromLaws.{rest_all}

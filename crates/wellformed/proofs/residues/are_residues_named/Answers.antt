@@ -1,6 +1,5 @@
 -- All of them pass exactly where those from index i on do.
 use mathlib.Core.Path.{sym, ap, ◌∙◌}
-use Prim.Native.Nat.{◌-◌}
 use Rattle.ascii.specs.Lists.{every}
 use Rattle.wellformed.specs.Slices.{entries, is_residue_named}
 use Rattle.wellformed.proofs.FromLaws.{rest_all, every_on, every_fails, every_end}

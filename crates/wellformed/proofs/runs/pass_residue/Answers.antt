@@ -1,5 +1,4 @@
 -- What is passed, and the run that is left from index i on, make the whole.
-use Prim.Native.Nat.{◌-◌}
 use native.Mathlib.Omega.{arith}
 use Rattle.wellformed.specs.Slices.{entries}
 use Rattle.wellformed.proofs.FromLaws.{equals_on, equals_stops, equals_end}

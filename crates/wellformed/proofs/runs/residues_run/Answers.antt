@@ -1,6 +1,5 @@
 -- What is left of the atoms from their index on runs through what is left of the residues exactly where all of them run through all.
 use mathlib.Core.Path.{sym, ◌∙◌}
-use Prim.Native.Nat.{◌-◌}
 use Rattle.wellformed.specs.Slices.{entries}
 use Rattle.wellformed.proofs.RunLaws.{runs_all, runs_on, runs_fail, runs_end}
 use Rattle.wellformed.proofs.runs.residues_run.Goals as goal

@@ -1,49 +1,31 @@
 -- Where the counts fit, the rules for the slices make the definition; and where they do not, the model is not well formed.
--- the slices at entry
 use mathlib.Core.Path.{◌≡◌, refl, sym, ap, ◌∙◌}
-use mathlib.Core.Bool.{true}
-use Rattle.model.specs.Lent.{Lent, lent_of}
+use mathlib.Core.Bool.{Bool}
+use Rattle.model.specs.declared.room.Room.{Room}
+use Rattle.model.specs.Lent.{Lent, lent_of, room_of}
 use Rattle.model.specs.WellFormed.{within, counts_fit}
 use Rattle.wellformed.proofs.WholeModel.{within_all, not_counted, all_tested}
 use Rattle.wellformed.proofs.whole.is_well_formed.Goals as goal
 
-abbrev lent : goal.Start → Lent
-lent s =
-    lent_of
-    s.args.chains.now
-    s.args.residue_keys.now
-    s.args.residue_names.now
-    s.args.residue_codes.now
-    s.args.residue_categories.now
-    s.args.residue_positions.now
-    s.args.atom_keys.now
-    s.args.atom_names.now
-    s.args.elements.now
-    s.args.positions.now
-    s.args.occupancies.now
-
-abbrev start : goal.After-is_within → goal.Start
-start k = k
-
-counted : (k : goal.After-is_within) → k.is_within.result ≡ counts_fit (lent (start k)) (start k).args.counts
+-- the counts are tested against the room
+counted : (l : Lent) (counts room : Room) {t : Bool} → t ≡ within counts room → room ≡ room_of l → t ≡ counts_fit l counts
 unfolding counts_fit
-counted k =
-    k.is_within.ensures
-    ∙ ap (within (start k).args.counts) (k.room_of-room.ensures (start k).args.chains.now refl)
-
--- where the counts fit
-fit : (p : goal.Else-not-is_within) → let s = start p in counts_fit (lent s) s.args.counts ≡ true
-fit p = sym (counted p) ∙ p.if-not-is_within.false
+counted l counts room e f = e ∙ ap (within counts) f
 
 pub returns-then-not-is_within : goal.returns-then-not-is_within
 returns-then-not-is_within c =
-    let s = start c in
-    not_counted (lent s) s.args.counts (sym (counted c) ∙ c.if-not-is_within.true)
+    let a = c.args in
+    let l = lent_of a.chains.now a.residue_keys.now a.residue_names.now a.residue_codes.now a.residue_categories.now a.residue_positions.now a.atom_keys.now a.atom_names.now a.elements.now a.positions.now a.occupancies.now in
+    not_counted l a.counts (sym (counted l a.counts _ c.is_within.ensures (c.room_of-room.ensures a.chains.now refl)) ∙ c.if-not-is_within.true)
 
 pub are_records_well-requires : goal.are_records_well-requires
-are_records_well-requires c = let s = start c in within_all (lent s) s.args.counts (fit c)
+are_records_well-requires c =
+    let a = c.args in
+    let l = lent_of a.chains.now a.residue_keys.now a.residue_names.now a.residue_codes.now a.residue_categories.now a.residue_positions.now a.atom_keys.now a.atom_names.now a.elements.now a.positions.now a.occupancies.now in
+    within_all l a.counts (sym (counted l a.counts _ c.is_within.ensures (c.room_of-room.ensures a.chains.now refl)) ∙ c.if-not-is_within.false)
 
 pub returns : goal.returns
 returns c =
-    let s = start c in
-    c.are_records_well.ensures ∙ all_tested (lent s) s.args.counts (fit c)
+    let a = c.args in
+    let l = lent_of a.chains.now a.residue_keys.now a.residue_names.now a.residue_codes.now a.residue_categories.now a.residue_positions.now a.atom_keys.now a.atom_names.now a.elements.now a.positions.now a.occupancies.now in
+    c.are_records_well.ensures ∙ all_tested l a.counts (sym (counted l a.counts _ c.is_within.ensures (c.room_of-room.ensures a.chains.now refl)) ∙ c.if-not-is_within.false)
