@@ -6,11 +6,9 @@ use Prim.Native.Nat.{ℕ, suc, ◌-◌, ◌^◌, ◌≤◌, ◌<◌}
 use native.Mathlib.Omega.{arith}
 use lib.ListN.{length, take, drop}
 use borrow.Author.Tests.{lt-ltb}
-use denote.Enum.Declared.{tag_of}
-use types.Run.{OneOf, miss}
-use Rattle.acts.specs.contracts.act.Act.{the_type}
 use Rattle.lines.specs.Lines.{lines_of, LineAt}
 use Rattle.lines.specs.declared.lines.Line.{Line}
+use Rattle.rows.specs.declared.rules.Site.{Site}
 use Rattle.rows.specs.declared.settings.Settings.{Settings}
 use Rattle.line_states.specs.States.{moved_by}
 use Rattle.line_states.specs.declared.heads.Heads.{Heads}
@@ -54,12 +52,12 @@ waiting_by number Skip = Nothing
 waiting_by number (Keep s) = Row number s
 waiting_by number (Refuse why) = Nothing
 
--- none does where the act is not the third
-pub none_kept : (number : ℕ) (act : Act) → OneOf (0 ∷ 1 ∷ 3 ∷ []) (tag_of the_type act) → waiting_by number act ≡ Nothing
-none_kept number Pass one = refl
-none_kept number Skip one = refl
-none_kept number (Keep s) one = absurd (miss (0 ∷ 1 ∷ 3 ∷ []) 2 tt one)
-none_kept number (Refuse why) one = refl
+-- none does where the act keeps no site
+pub none_kept : (number : ℕ) (act : Act) → ((s : Site) → act ≡ Keep s → ⊥) → waiting_by number act ≡ Nothing
+none_kept number Pass other = refl
+none_kept number Skip other = refl
+none_kept number (Keep s) other = absurd (other s refl)
+none_kept number (Refuse why) other = refl
 
 module _ (text : List ℕ) (settings : Settings) (from : Stage) (few : suc (length text) < 2 ^ 64) (more : from.at < length text) (line : Line) (l : LineAt text from.at line) where
   abbrev bytes : List ℕ

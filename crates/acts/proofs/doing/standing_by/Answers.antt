@@ -1,4 +1,4 @@
--- Each arm is one case of `standingBy`.
+-- Each arm is one case of `standing_by`.
 use Rattle.acts.proofs.doing.standing_by.Goals as goal
 
 pub returns-in-NoRoom : goal.returns-in-NoRoom

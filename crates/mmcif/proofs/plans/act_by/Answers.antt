@@ -1,4 +1,4 @@
--- Each arm is one case of `actBy`; a line of at most 2,048 bytes is its first 2,048 bytes.
+-- Each arm is one case of `act_by`; a line of at most 2,048 bytes is its first 2,048 bytes.
 use mathlib.Core.Path.{sym, ap, ◌∙◌}
 use lib.Seq.{take_all}
 use Rattle.tokens.specs.Longest.{longest}

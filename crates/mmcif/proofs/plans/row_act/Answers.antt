@@ -1,4 +1,4 @@
--- Each arm is one case of `rowAct`.
+-- Each arm is one case of `row_act`.
 use Rattle.mmcif.proofs.plans.row_act.Goals as goal
 
 pub returns-in-Refused : goal.returns-in-Refused

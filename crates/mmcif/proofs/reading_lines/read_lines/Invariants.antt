@@ -1,15 +1,8 @@
-use Rattle.model.specs.Fold.{start}
 use Rattle.building.specs.Holds.{records_of}
-use Rattle.acts.specs.Making.{Making, made}
-use Rattle.acts.specs.Standing.{ahead}
-use Rattle.mmcif.specs.Acts.{acts_of}
+use Rattle.acts.specs.Making.{Making}
 use Rattle.mmcif.specs.Stages.{left}
 use Rattle.mmcif.proofs.UnderWay.{UnderWay}
 use Rattle.mmcif.proofs.reading_lines.read_lines.Given as goal
-
--- what is to be reached
-abbrev pub target : goal.Start → Making
-target t = ahead t.args.halt (made t.args.room start (acts_of t.args.settings t.args.text.now))
 
 abbrev pub invariant-loop-settings : goal.invariant-loop-settings
 invariant-loop-settings l =

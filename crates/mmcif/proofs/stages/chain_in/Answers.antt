@@ -1,4 +1,4 @@
--- Each arm is one case of `chainIn`.
+-- Each arm is one case of `chain_in`.
 use Rattle.mmcif.proofs.stages.chain_in.Goals as goal
 
 pub returns-in-Nothing : goal.returns-in-Nothing

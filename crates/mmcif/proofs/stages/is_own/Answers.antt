@@ -1,4 +1,4 @@
--- Both cases of `isOwn`.
+-- Both cases of `is_own`.
 use mathlib.Core.Path.{sym, ap, ◌∙◌}
 use mathlib.Core.Bool.{Bool}
 use Rattle.mmcif.specs.Stages.{is_own}

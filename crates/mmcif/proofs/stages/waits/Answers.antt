@@ -1,4 +1,4 @@
--- Each arm is one case of `isWaiting`.
+-- Each arm is one case of `is_waiting`.
 use Rattle.mmcif.proofs.stages.waits.Goals as goal
 
 pub returns-in-Nothing : goal.returns-in-Nothing
