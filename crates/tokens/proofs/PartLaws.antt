@@ -1,4 +1,4 @@
--- Each case of `part_of` is one of `tokenIn`: there is no such token, or it lies between its two places, of which none is past the cell's end.
+-- Each case of `part_of` is one of `token_in`: there is no such token, or it lies between its two places, of which none is past the cell's end.
 use mathlib.Core.Path.{◌≡◌, sym, ap, ◌∙◌}
 use mathlib.Core.List.{List, []}
 use Prim.Native.Nat.{ℕ, ◌+◌, ◌-◌, ◌≤◌, ◌<◌}

@@ -1,4 +1,4 @@
--- The header's column, number and mark are as in `withHeader`, whether some header before it was marked or not.
+-- The header's column, number and mark are as in `with_header`, whether some header before it was marked or not.
 use Rattle.line_states.proofs.heads.with_header.Goals as goal
 
 pub returns-then-heads : goal.returns-then-heads

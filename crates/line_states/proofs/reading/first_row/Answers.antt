@@ -1,4 +1,4 @@
--- Whether some header begins `_atom_site.` decides, as in `firstRow`.
+-- Whether some header begins `_atom_site.` decides, as in `first_row`.
 use Rattle.line_states.proofs.reading.first_row.Goals as goal
 
 pub returns-then-heads : goal.returns-then-heads

@@ -1,4 +1,4 @@
--- Each arm is one case of `itemIn`.
+-- Each arm is one case of `item_in`.
 use Rattle.line_states.proofs.reading.item_in.Goals as goal
 
 pub returns-in-Base : goal.returns-in-Base

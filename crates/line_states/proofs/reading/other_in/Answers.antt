@@ -1,4 +1,4 @@
--- Each arm is one case of `otherIn`.
+-- Each arm is one case of `other_in`.
 use Rattle.line_states.proofs.reading.other_in.Goals as goal
 
 pub returns-in-Base : goal.returns-in-Base

@@ -1,4 +1,4 @@
--- The first test that says yes decides, as in `movedByToken`.
+-- The first test that says yes decides, as in `moved_by_token`.
 use mathlib.Core.Path.{sym, ◌∙◌}
 use Rattle.line_states.specs.States.{moved_by_token}
 use Rattle.line_states.proofs.reading.read_token.Goals as goal

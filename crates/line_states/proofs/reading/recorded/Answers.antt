@@ -1,4 +1,4 @@
--- The number of headers so far decides, as in `recordedOf`.
+-- The number of headers so far decides, as in `recorded_of`.
 use borrow.Author.Tests.{lt-ltb, le-ltb}
 use Rattle.line_states.proofs.reading.recorded.Goals as goal
 

@@ -1,4 +1,4 @@
--- The code tests what `negativeOf` tests.
+-- The code tests what `negative_of` tests.
 use borrow.Author.Tests.{le-leb, lt-leb}
 use Rattle.token_values.proofs.sequence.negative.Goals as goal
 

@@ -1,4 +1,4 @@
--- The code tests what `positiveOf` tests.
+-- The code tests what `positive_of` tests.
 use borrow.Author.Tests.{lt-ltb, le-ltb}
 use Rattle.token_values.proofs.sequence.positive.Goals as goal
 

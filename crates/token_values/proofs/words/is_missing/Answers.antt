@@ -1,4 +1,4 @@
--- The code asks the two questions that `isMissing` asks, in their order.
+-- The code asks the two questions that `is_missing` asks, in their order.
 use mathlib.Core.Path.{sym}
 use Rattle.token_values.proofs.words.is_missing.Goals as goal
 

@@ -1,4 +1,4 @@
--- Each return is one case of `quoteFor`, by what was found in the name.
+-- Each return is one case of `quote_for`, by what was found in the name.
 use mathlib.Core.Path.{sym, ◌∙◌}
 use Rattle.tokens.proofs.quote.quote_for.Goals as goal
 

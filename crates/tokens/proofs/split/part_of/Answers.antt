@@ -1,4 +1,4 @@
--- Each return is one case of `tokenIn`.
+-- Each return is one case of `token_in`.
 use Rattle.tokens.proofs.PartLaws.{token_none, place_none, token_cut, places_crossed, token_some}
 use Rattle.tokens.proofs.split.part_of.Goals as goal
 

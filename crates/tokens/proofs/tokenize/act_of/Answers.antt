@@ -1,4 +1,4 @@
--- Each return is one case of `actOf`, by the tests that led there and by what `kind_of` said.
+-- Each return is one case of `act_of`, by the tests that led there and by what `kind_of` said.
 use mathlib.Core.Path.{sym, ◌∙◌}
 use borrow.Author.Tests.{eq-eqb, ne_eqb}
 use Rattle.tokens.proofs.tokenize.act_of.Goals as goal
