@@ -28,7 +28,7 @@ fn cases(definitions: &str, name: &str) -> Vec<(String, String)> {
 /// What the details of a reason name, in the order of their numbers: `atom`, `residue`, ..
 fn named(reason: &str) -> Vec<String> {
     let details = file("crates/refusals/specs/Details.antt");
-    let (_, value) = cases(&file("crates/refusals/specs/Reasons.antt"), "detailOf")
+    let (_, value) = cases(&file("crates/refusals/specs/Reasons.antt"), "detail_of")
         .into_iter()
         .find(|(case, _)| case == reason)
         .expect("every reason has a detail");
@@ -51,7 +51,7 @@ fn named(reason: &str) -> Vec<String> {
 
 /// Every reason and its number, that of the host call last.
 fn reasons() -> Vec<(String, u32)> {
-    let defined = cases(&file("crates/refusals/specs/Reasons.antt"), "numberOf");
+    let defined = cases(&file("crates/refusals/specs/Reasons.antt"), "number_of");
     assert!(defined.len() >= 14, "the definition was not found");
     let numbered = defined
         .into_iter()
