@@ -12,32 +12,25 @@ use Rattle.building.proofs.AtomStores.{no_atoms, atoms_wider, atoms_still_long}
 use Rattle.building.proofs.StoreLaws.{apart_widened}
 use Rattle.building.proofs.atoms.make_room.Goals as goal
 
-abbrev entry : goal.Start → AtomSlices
-entry t = let a = t.args in atoms_of a.keys.now a.names.now a.elements.now a.positions.now a.occupancies.now
-
-abbrev after : goal.After-empty_pocket-store → AtomSlices
-after p = let l = p.empty_pocket-store.new in atoms_of l.keys l.names l.elements l.positions l.occupancies
-
-module _ (c : goal.After-widened) (m : Map Atom) (long : AtomsLong (entry c) c.args.room) (h : Apart (AtomsIn (entry c)) c.args.room c.args.store m) (low : length m < c.args.room) where
-  abbrev room : ℕ
-  room = c.args.room
-  abbrev emptied : goal.After-empty_pocket-store
-  emptied = c
-  held_then : Apart (AtomsIn (after emptied)) room emptied.empty-pocket.result m
-  held_then = emptied.empty-pocket.ensures.apart room m long h
-  none_there : many emptied.empty-pocket.result.pocket ≡ 0
-  none_there = emptied.empty-pocket.ensures.none room m long h
-  wide : Widened room emptied.empty-pocket.result c.widened.result
-  wide = c.widened.ensures held_then.lays none_there (omega (arith, low, held_then.main.many, held_then.parted.many))
-  whole : Apart (AtomsIn (after emptied)) room c.widened.result m
-  whole =
-      apart_widened (AtomsIn (after emptied)) room emptied.empty-pocket.result c.widened.result m held_then none_there wide (no_atoms (after emptied))
-      (λ full to lo hi i. atoms_wider (after emptied) room (atoms_still_long (entry c) (after emptied) room emptied.empty-pocket.ensures.same long) emptied.empty-pocket.result.main
-      held_then.lays.start full to lo hi m i)
-
 pub returns : goal.returns
-returns c = record {
-  same = c.empty_pocket-store.ensures.same;
-  apart = whole c;
-  roomy = λ m long h low. let w = wide c m long h low in omega (arith, w.roomy, w.pocket);
-}
+returns c =
+    let entry : AtomSlices = atoms_of c.args.keys.now c.args.names.now c.args.elements.now c.args.positions.now c.args.occupancies.now in
+    let after : AtomSlices = atoms_of c.empty_pocket-store.new.keys c.empty_pocket-store.new.names c.empty_pocket-store.new.elements c.empty_pocket-store.new.positions c.empty_pocket-store.new.occupancies in
+    let room = c.args.room in
+    let emptied = c.empty_pocket-store in
+    let held_then : (m : Map Atom) → AtomsLong entry room → Apart (AtomsIn entry) room c.args.store m → Apart (AtomsIn after) room emptied.result m
+    = λ m long h. emptied.ensures.apart room m long h in
+    let none_there : (m : Map Atom) → AtomsLong entry room → Apart (AtomsIn entry) room c.args.store m → many emptied.result.pocket ≡ 0
+    = λ m long h. emptied.ensures.none room m long h in
+    let wide : (m : Map Atom) → AtomsLong entry room → Apart (AtomsIn entry) room c.args.store m → length m < room → Widened room emptied.result c.widened.result
+    = λ m long h low.
+        let h' = held_then m long h in
+        c.widened.ensures h'.lays (none_there m long h) (omega (arith, low, h'.main.many, h'.parted.many)) in
+    record {
+      same = emptied.ensures.same;
+      apart = λ m long h low.
+          let h' = held_then m long h in
+          apart_widened (AtomsIn after) room emptied.result c.widened.result m h' (none_there m long h) (wide m long h low) (no_atoms after)
+          (λ full to lo hi i. atoms_wider after room (atoms_still_long entry after room emptied.ensures.same long) emptied.result.main h'.lays.start full to lo hi m i);
+      roomy = λ m long h low. let w = wide m long h low in omega (arith, w.roomy, w.pocket);
+    }

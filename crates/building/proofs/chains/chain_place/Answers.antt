@@ -1,7 +1,7 @@
 -- The first n chains are as many as are counted. A walk that does not end behind all of them ends at the chain; else the walk over all of them decides.
 use mathlib.Core.Path.{◌≡◌, sym, ap, ◌∙◌}
 use mathlib.Core.List.{List}
-use Prim.Native.Nat.{ℕ, ◌+◌}
+use Prim.Native.Nat.{ℕ, ◌+◌, min}
 use native.Mathlib.Omega.{arith}
 use lib.ListN.{length, take, drop, length-take}
 use Rattle.field_slices.proofs.PairLaws.{first_counted}
@@ -10,20 +10,11 @@ use Rattle.building.proofs.ChainLaws.{walked, walked_from}
 use Rattle.building.proofs.chains.chain_place.Goals as goal
 
 -- the chains that are looked at, and how many they are
-abbrev Counted : Type 0
-Counted = goal.After-smaller-count
+counted : (n count : ℕ) (chains : List ℕ) → count ≡ min n (length chains) → length (take n chains) ≡ count
+counted n count chains e = length-take n chains ∙ sym e
 
-abbrev chains : Counted → List ℕ
-chains p = p.before.before.args.chains.now
-
-abbrev first : Counted → List ℕ
-first p = take p.before.before.args.n (chains p)
-
-counted : (p : Counted) → length (first p) ≡ p.smaller.result
-counted p = length-take p.before.before.args.n (chains p) ∙ sym p.smaller.ensures
-
-same_first : (p : Counted) → take p.smaller.result (chains p) ≡ first p
-same_first p = ap (λ (m : ℕ). take m (chains p)) p.smaller.ensures ∙ first_counted p.before.before.args.n (chains p)
+same_first : (n count : ℕ) (chains : List ℕ) → count ≡ min n (length chains) → take count chains ≡ take n chains
+same_first n count chains e = ap (λ (m : ℕ). take m chains) e ∙ first_counted n chains
 
 pub walk-place-requires : goal.walk-place-requires
 walk-place-requires c = (omega (arith, c.smaller-count.ensures), omega (arith, c.smaller-from.ensures))
@@ -32,8 +23,8 @@ pub returns-then-place-count : goal.returns-then-place-count
 returns-then-place-count c =
     let a = c.args in
     let from = c.smaller-from.result in
-    walked_from a.name (first c) from c.walk-place.result
-    (c.walk-place.ensures ∙ ap (λ (l : List ℕ). from + chain_place a.name (drop from l)) (same_first c)) (omega (arith, counted c, c.if-place-count.true))
+    walked_from a.name (take a.n a.chains.now) from c.walk-place.result
+    (c.walk-place.ensures ∙ ap (λ (l : List ℕ). from + chain_place a.name (drop from l)) (same_first a.n c.smaller-count.result a.chains.now c.smaller-count.ensures)) (omega (arith, counted a.n c.smaller-count.result a.chains.now c.smaller-count.ensures, c.if-place-count.true))
 
 pub walk-requires : goal.walk-requires
 walk-requires c = (omega (arith, c.smaller-count.ensures), omega arith)
@@ -41,4 +32,4 @@ walk-requires c = (omega (arith, c.smaller-count.ensures), omega arith)
 pub returns : goal.returns
 returns c =
     let a = c.args in
-    walked a.name (first c) c.walk.result (omega (arith, c.walk.ensures, ap (chain_place a.name) (same_first c)))
+    walked a.name (take a.n a.chains.now) c.walk.result (omega (arith, c.walk.ensures, ap (chain_place a.name) (same_first a.n c.smaller-count.result a.chains.now c.smaller-count.ensures)))

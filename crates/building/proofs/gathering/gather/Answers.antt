@@ -12,5 +12,5 @@ returns c =
     let r = c.gather_residues.new in
     let l = c.gather_atoms.new in
     λ chains.
-    all_gathered (records_of chains a.residue-keys.now a.residue-names.now a.residue-marks.now a.atom-keys.now a.atom-names.now a.elements.now a.positions.now a.occupancies.now) a.held
+    all_gathered (records_of chains a.residue_keys.now a.residue_names.now a.residue_marks.now a.atom_keys.now a.atom_names.now a.elements.now a.positions.now a.occupancies.now) a.held
     (records_of chains r.keys r.names r.marks l.keys l.names l.elements l.positions l.occupancies) refl residues.ensures atoms.ensures

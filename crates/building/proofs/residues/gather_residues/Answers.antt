@@ -27,7 +27,7 @@ returns c =
       front = λ room m long h.
           let held = emptied.ensures.apart room m long h in
           let alone = main_alone (ResiduesIn mid) room emptied.result m held (emptied.ensures.none room m long h) in
-          let low : many emptied.result.main < 2 ^ 64 = omega (arith, held.lays.fits, held.lays.ordered, held.lays.inside, long.keys, c.well_formed.0.0, c.well_formed.0.1) in
+          let low : many emptied.result.main < 2 ^ 64 = omega (arith, held.lays.fits, held.lays.ordered, held.lays.inside, long.keys) in
           residues_first mid (residues_of keys.new.words names.new.words marks.new.bytes) room (still_long entry mid room emptied.ensures.same long) emptied.result.main
           c.entries_of-many.result (c.entries_of-many.ensures low) held.lays.start (omega (arith, held.lays.fits)) (omega (arith, held.lays.ordered, held.lays.inside)) m alone
           keys.ensures names.ensures marks.ensures;

@@ -24,7 +24,7 @@ returns-then-entries_of-eq0 c =
     let a = c.args in
     let spot = c.spot_in-spot in
     λ lies also under beside.
-    let none : many a.store.pocket ≡ 0 = sym (c.entries_of.ensures (omega (arith, under.inside, under.fits, c.well_formed.0.0))) ∙ c.if-entries_of-eq0.true in
+    let none : many a.store.pocket ≡ 0 = sym (c.entries_of.ensures (omega (arith, under.inside, under.fits))) ∙ c.if-entries_of-eq0.true in
     none_in_pocket by_both (0, 0) (a.key, a.name) (pairs (entriesIn a.store.main a.keys.now) (entriesIn a.store.main a.names.now)) (pairs (entriesIn a.store.pocket a.keys.now) (entriesIn a.store.pocket a.names.now)) a.store spot.result (spot.ensures lies also) (not-false _ c.if-not-spot.false) (none_of_both a.store.pocket a.keys.now a.names.now none)
 
 pub returns-then-not-other : goal.returns-then-not-other

@@ -25,7 +25,7 @@ returns-then-entries_of-eq0 c =
     let a = c.args in
     let spot = c.spot_in_key-spot in
     λ lies under.
-    let none : many a.store.pocket ≡ 0 = sym (c.entries_of.ensures (omega (arith, under.inside, under.fits, c.well_formed.0.0))) ∙ c.if-entries_of-eq0.true in
+    let none : many a.store.pocket ≡ 0 = sym (c.entries_of.ensures (omega (arith, under.inside, under.fits))) ∙ c.if-entries_of-eq0.true in
     none_in_pocket numbers 0 a.key (entriesIn a.store.main a.keys.now) (entriesIn a.store.pocket a.keys.now) a.store spot.result (spot.ensures lies) (not-false _ c.if-not-spot.false) (none_in a.store.pocket a.keys.now none)
 
 pub returns-then-not-other : goal.returns-then-not-other
