@@ -3,9 +3,9 @@ use mathlib.Core.Path.{◌≡◌, refl, sym, ap, ◌∙◌}
 use mathlib.Core.Bool.{Bool, true, false, cond}
 use mathlib.Core.List.{List, [], ◌++◌, map, append-nil}
 use mathlib.Core.Logic.{◌⊎◌}
-use Prim.Native.Nat.{ℕ, ◌+◌, ◌-◌, ◌≤◌, ◌<◌}
+use Prim.Native.Nat.{ℕ, ◌-◌, ◌≤◌, ◌<◌}
 use native.Mathlib.Omega.{arith}
-use lib.ListN.{length, take, drop, get_or, set, length-map, length-set, drop_of_length-le, take-append-drop, get_or-map}
+use lib.ListN.{length, take, drop, get_or, set, length-set, drop_of_length-le, take-append-drop, get_or-map}
 use lib.Seq.{take-take, length-take-le, map-set_same}
 use Rattle.field_slices.specs.Insertion.{ins}
 use Rattle.field_slices.proofs.MapLaws.{map_ins, map_set}

@@ -2,7 +2,7 @@
 use mathlib.Core.Path.{◌≡◌}
 use mathlib.Core.List.{List}
 use mathlib.Core.Option.{none}
-use Prim.Native.Nat.{ℕ, suc, ◌+◌, ◌-◌, ◌^◌, ◌≤◌, ◌<◌}
+use Prim.Native.Nat.{ℕ, suc, ◌-◌, ◌^◌, ◌≤◌, ◌<◌}
 use lib.Dec.{ltb}
 use lib.Ieee.{Float}
 use lib.ListN.{length}
@@ -18,7 +18,7 @@ use Rattle.model.specs.Lent.{coordinates}
 use Rattle.model.specs.Map.{Map, find, put}
 use Rattle.building.specs.declared.stores.Store.{Store}
 use Rattle.building.specs.Kinds.{AtomSlices, AtomsIn, AtomsLong}
-use Rattle.building.specs.Stores.{held, Lays, Apart, InMain, InPocket}
+use Rattle.building.specs.Stores.{held, Apart, InMain, InPocket}
 use Rattle.building.proofs.AtomStores.{atom_entered, atom_elsewhere, atom_looked_new}
 use Rattle.building.proofs.MapPlaces.{keys}
 use Rattle.building.proofs.PartedLaws.{not_in_either}

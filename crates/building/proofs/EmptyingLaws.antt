@@ -2,12 +2,10 @@
 -- main area has it alone. Said once for both kinds of record.
 use Prim.{tt}
 use mathlib.Core.Path.{◌≡◌, refl, sym, ap, ◌∙◌, subst}
-use mathlib.Core.Bool.{Bool, true, false}
 use mathlib.Core.List.{List, [], ◌∷◌, map}
 use mathlib.Core.Logic.{inr}
 use mathlib.Core.Option.{none}
 use Prim.Native.Nat.{ℕ, zero, suc, ◌+◌, ◌-◌, ◌^◌, ◌≤◌, ◌<◌}
-use native.Mathlib.Nat.{le_of_suc-le-suc, not-suc-le-zero}
 use native.Mathlib.Omega.{arith}
 use lib.Dec.{ltb}
 use lib.ListN.{length, drop, get_or, drop_of_length-le}
@@ -20,7 +18,7 @@ use Rattle.gapped_slices.specs.declared.areas.Area.{Area}
 use Rattle.model.specs.Map.{Entry, Map, find, put, AscendingFrom, Ascending}
 use Rattle.building.specs.declared.stores.Store.{Store}
 use Rattle.building.specs.Parted.{Parted}
-use Rattle.building.specs.Stores.{emptied_area, held, Lays, Kept, Apart}
+use Rattle.building.specs.Stores.{emptied_area, held, Kept, Apart}
 use Rattle.building.proofs.AreaFields.{field_at}
 use Rattle.building.proofs.MapPlaces.{keys, new}
 use Rattle.building.proofs.PartedLaws.{none_yet, parted_moved, parted_alone, parted_whole}

@@ -1,16 +1,16 @@
 -- A map in two parts stays so when a value is put into the map and into the part that may have its key, and when an entry goes from one part to the other; and where the second
 -- part is empty, the first is the map. Said once, of any type of value: all of it by what is found at each key.
-use Prim.{Dec, yes, no, tt}
-use mathlib.Core.Path.{◌≡◌, refl, sym, ap, ◌∙◌, subst}
+use Prim.{Dec, yes, no}
+use mathlib.Core.Path.{◌≡◌, refl, sym, ap, ◌∙◌}
 use mathlib.Core.Bool.{Bool, true, false, cond}
 use mathlib.Core.Logic.{◌⊎◌, inl, inr}
 use mathlib.Core.List.{[], ◌∷◌}
 use mathlib.Core.Option.{Option, none, some, none-ne-some}
-use Prim.Native.Nat.{ℕ, suc, ◌+◌, ◌≤◌, ◌<◌, compare, Ordering}
+use Prim.Native.Nat.{ℕ, suc, ◌+◌, compare, Ordering}
 use native.Mathlib.Omega.{arith}
 use lib.ListN.{length}
 use Rattle.numbers.proofs.Comparing.{Compared, compared}
-use Rattle.model.specs.Map.{Entry, Map, find, is_none, put, AscendingFrom, Ascending}
+use Rattle.model.specs.Map.{Entry, Map, find, is_none, put, Ascending}
 use Rattle.model.proofs.MapLaws.{choose_less, choose_same, choose_more, find_put, find_put_other, length_put, find_low, same_map}
 use Rattle.building.specs.Parted.{either_of, Parted}
 

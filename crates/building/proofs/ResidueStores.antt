@@ -2,11 +2,11 @@
 use mathlib.Core.Path.{◌≡◌, refl, ◌∙◌}
 use mathlib.Core.List.{[]}
 use mathlib.Core.Logic.{◌⊎◌}
-use Prim.Native.Nat.{ℕ, ◌+◌, ◌-◌, ◌≤◌, ◌<◌}
+use Prim.Native.Nat.{ℕ, ◌-◌, ◌≤◌, ◌<◌}
 use native.Mathlib.Omega.{arith}
 use lib.ListN.{length}
 use Rattle.field_slices.specs.Insertion.{ins}
-use Rattle.gapped_slices.specs.Areas.{many, one_more_at, entriesIn, MovedIn, PutsIn}
+use Rattle.gapped_slices.specs.Areas.{many, one_more_at, MovedIn, PutsIn}
 use Rattle.gapped_slices.specs.declared.areas.Area.{Area}
 use Rattle.gapped_slices.proofs.AreaLaws.{entries_elsewhere}
 use Rattle.model.specs.Fold.{Residue}

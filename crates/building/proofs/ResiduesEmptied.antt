@@ -1,8 +1,8 @@
 -- A residue of the pocket goes over into main: it is taken out of its slices by its index, main knows nothing of its key, and so it is put in where a look among main's keys leads.
-use mathlib.Core.Path.{◌≡◌, refl, sym, ap, ◌∙◌, subst}
+use mathlib.Core.Path.{◌≡◌, ap, ◌∙◌, subst}
 use mathlib.Core.Bool.{false}
-use mathlib.Core.List.{List, [], map}
-use Prim.Native.Nat.{ℕ, suc, ◌+◌, ◌-◌, ◌^◌, ◌≤◌, ◌<◌}
+use mathlib.Core.List.{List, map}
+use Prim.Native.Nat.{ℕ, suc, ◌^◌, ◌≤◌, ◌<◌}
 use native.Mathlib.Omega.{arith}
 use lib.Dec.{ltb}
 use lib.ListN.{length, get_or}
@@ -15,10 +15,10 @@ use Rattle.gapped_slices.specs.declared.areas.Area.{Area}
 use Rattle.gapped_slices.specs.declared.spots.Spot.{Spot}
 use Rattle.model.specs.Fold.{Residue}
 use Rattle.model.specs.Lists.{count}
-use Rattle.model.specs.Map.{Entry, Map, find}
+use Rattle.model.specs.Map.{Entry, Map}
 use Rattle.building.specs.declared.stores.Store.{Store}
 use Rattle.building.specs.Kinds.{ResidueSlices, ResiduesIn, ResiduesLong, ResiduesSame}
-use Rattle.building.specs.Stores.{Lays, Apart}
+use Rattle.building.specs.Stores.{Apart}
 use Rattle.building.proofs.EmptyingLaws.{Emptying, taken, not_in_main, lies_so_far, goes_over}
 use Rattle.building.proofs.MapPlaces.{keys, looked_new}
 use Rattle.building.proofs.ResidueStores.{residue_entered, residue_elsewhere}

@@ -1,7 +1,7 @@
 -- A new residue goes into main or into the pocket, at its place there, and both areas have the map with it.
 use mathlib.Core.Path.{◌≡◌}
 use mathlib.Core.Option.{none}
-use Prim.Native.Nat.{ℕ, suc, ◌+◌, ◌-◌, ◌^◌, ◌≤◌, ◌<◌}
+use Prim.Native.Nat.{ℕ, suc, ◌-◌, ◌^◌, ◌≤◌, ◌<◌}
 use lib.Dec.{ltb}
 use lib.ListN.{length}
 use Rattle.field_slices.specs.declared.places.Place.TheVariants.{Before}

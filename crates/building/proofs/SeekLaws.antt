@@ -1,8 +1,8 @@
 -- A look in main, and where it finds nothing one in the pocket, says where a key is: by the places in both, in any order.
-use mathlib.Core.Path.{◌≡◌, refl, sym, ap, ◌∙◌, subst}
+use mathlib.Core.Path.{◌≡◌, sym, ap, ◌∙◌, subst}
 use mathlib.Core.Bool.{Bool, true, false, false≢true}
-use mathlib.Core.List.{List, [], ◌∷◌}
-use Prim.Native.Nat.{ℕ, suc, ◌-◌, ◌<◌}
+use mathlib.Core.List.{List, []}
+use Prim.Native.Nat.{ℕ, ◌-◌, ◌<◌}
 use native.Mathlib.Omega.{arith}
 use lib.ListN.{length}
 use Rattle.field_slices.specs.declared.places.Place.{Place}
@@ -16,7 +16,6 @@ use Rattle.gapped_slices.specs.declared.areas.Area.{Area}
 use Rattle.gapped_slices.proofs.AreaLaws.{length_entries}
 use Rattle.gapped_slices.specs.Spots.{spot_of, Spotted}
 use Rattle.gapped_slices.specs.declared.spots.Spot.{Spot}
-use Rattle.building.specs.declared.seeking.Sought.{Sought}
 use Rattle.building.specs.declared.stores.Store.{Store}
 use Rattle.building.specs.Stores.{sought_by, Seeks}
 use Rattle.building.proofs.AreaFields.{none_in}

@@ -15,7 +15,7 @@ use Rattle.gapped_slices.specs.Areas.{Lies, entriesIn}
 use Rattle.gapped_slices.specs.declared.areas.Area.{Area}
 use Rattle.model.specs.Chains.{chain_place, with_chain}
 use Rattle.model.specs.Finished.{key_part, name_part}
-use Rattle.model.specs.Fold.{Residue, Atom, State, start, first, greater, outdone_with, step}
+use Rattle.model.specs.Fold.{Atom, State, start, first, greater, outdone_with, step}
 use Rattle.model.specs.Keys.{residue_key, atom_place, residue_at, atom_at}
 use Rattle.model.specs.Lists.{count}
 use Rattle.model.specs.Map.{Entry, Map, find, is_none, put}
@@ -32,7 +32,7 @@ use Rattle.building.specs.declared.stores.Store.{Store}
 use Rattle.building.specs.Gaps.{none_held, residues_in, atoms_in, HoldsApart}
 use Rattle.building.specs.Holds.{Records, Within, SameLengths, HoldsChains}
 use Rattle.building.specs.Kinds.{ResiduesIn, ResiduesLong, ResiduesSame, AtomsIn, AtomsLong, AtomsSame}
-use Rattle.building.specs.Sites.{is_new_chain, SoughtFor, lack_of, one_more, counts_with, with_skipped}
+use Rattle.building.specs.Sites.{is_new_chain, SoughtFor, lack_of, counts_with, with_skipped}
 use Rattle.building.specs.Slices.{ChainFound}
 use Rattle.building.specs.Stores.{Apart, keys_of, sought_by, Puts}
 use Rattle.building.proofs.AtomPlaces.{split, splits, parts, place_split, ascending_split}

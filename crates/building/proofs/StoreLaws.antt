@@ -2,10 +2,10 @@
 -- for both kinds of record, by what the slices of a kind have in an area (`In` before, `In'` afterwards).
 use Prim.{tt}
 use mathlib.Core.Path.{◌≡◌, refl, sym, ap, ◌∙◌, subst}
-use mathlib.Core.List.{List, [], ◌∷◌}
+use mathlib.Core.List.{[], ◌∷◌}
 use mathlib.Core.Logic.{◌⊎◌, inl, inr}
-use mathlib.Core.Option.{Option, none}
-use Prim.Native.Nat.{ℕ, suc, ◌+◌, ◌-◌, ◌^◌, ◌≤◌, ◌<◌}
+use mathlib.Core.Option.{none}
+use Prim.Native.Nat.{ℕ, suc, ◌-◌, ◌^◌, ◌≤◌, ◌<◌}
 use native.Mathlib.Omega.{arith}
 use lib.Dec.{ltb}
 use lib.ListN.{length}
@@ -15,13 +15,13 @@ use Rattle.field_slices.specs.Places.{place_in}
 use Rattle.field_slices.proofs.InsertionLaws.{length_ins}
 use Rattle.gapped_slices.specs.Areas.{many, Lies, one_more_at}
 use Rattle.gapped_slices.specs.declared.areas.Area.{Area}
-use Rattle.model.specs.Map.{Entry, Map, find, put, Ascending}
+use Rattle.model.specs.Map.{Entry, Map, find, put}
 use Rattle.model.proofs.MapLaws.{ascending_put}
 use Rattle.building.specs.declared.stores.Store.{Store}
 use Rattle.building.specs.Parted.{Parted}
 use Rattle.building.specs.Stores.{no_area, no_store, held, Lays, Kept, Apart, InMain, InPocket, Widened}
 use Rattle.building.proofs.MapPlaces.{keys, new}
-use Rattle.building.proofs.PartedLaws.{parted_turned, parted_put, none_yet, parted_moved, parted_alone, parted_whole, not_in_either}
+use Rattle.building.proofs.PartedLaws.{parted_turned, parted_put, parted_alone, parted_whole, not_in_either}
 
 -- ---- the areas lie in every slice that has the room
 module _ (room : ℕ) (s : Store) (l : Lays room s) (size : ℕ) (long : room ≤ size) where

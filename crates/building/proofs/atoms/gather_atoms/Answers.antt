@@ -3,7 +3,7 @@ use mathlib.Core.Path.{◌∙◌}
 use Prim.Native.Nat.{◌^◌, ◌<◌}
 use native.Mathlib.Omega.{arith}
 use Rattle.gapped_slices.specs.Areas.{many}
-use Rattle.building.specs.Kinds.{AtomSlices, atoms_of, AtomsIn, AtomsSame}
+use Rattle.building.specs.Kinds.{AtomSlices, atoms_of, AtomsIn}
 use Rattle.building.proofs.AtomStores.{atoms_still_long, atoms_first}
 use Rattle.building.proofs.StoreLaws.{main_alone}
 use Rattle.building.proofs.atoms.gather_atoms.Goals as goal

@@ -1,6 +1,6 @@
 -- The pocket emptied, main has all of them; where it is full it is widened.
 use mathlib.Core.Path.{◌≡◌}
-use Prim.Native.Nat.{ℕ, ◌<◌}
+use Prim.Native.Nat.{◌<◌}
 use native.Mathlib.Omega.{arith}
 use lib.ListN.{length}
 use Rattle.gapped_slices.specs.Areas.{many}
@@ -24,8 +24,8 @@ returns c =
     = λ m long h. emptied.ensures.none room m long h in
     let wide : (m : Map Atom) → AtomsLong entry room → Apart (AtomsIn entry) room c.args.store m → length m < room → Widened room emptied.result c.widened.result
     = λ m long h low.
-        let h' = held_then m long h in
-        c.widened.ensures h'.lays (none_there m long h) (omega (arith, low, h'.main.many, h'.parted.many)) in
+    let h' = held_then m long h in
+    c.widened.ensures h'.lays (none_there m long h) (omega (arith, low, h'.main.many, h'.parted.many)) in
     record {
       same = emptied.ensures.same;
       apart = λ m long h low.

@@ -1,6 +1,6 @@
 -- One residue of the pocket after the other goes over into main; after the last the pocket is empty.
 use mathlib.Core.Path.{◌≡◌, refl, sym, ◌∙◌, subst}
-use Prim.Native.Nat.{ℕ, ◌-◌, ◌^◌, ◌≤◌, ◌<◌}
+use Prim.Native.Nat.{ℕ, ◌^◌, ◌≤◌, ◌<◌}
 use native.Mathlib.Numerals.{add-one}
 use native.Mathlib.Omega.{arith}
 use lib.ListN.{length}
@@ -17,12 +17,11 @@ use Rattle.building.proofs.StoreLaws.{lies_pocket}
 use Rattle.building.proofs.residues.empty_pocket.Goals as goal
 
 pub loop-k-init : goal.loop-k-init
-loop-k-init c =
-    (
-      record { keys = refl; names = refl; marks = refl },
-      omega arith,
-      λ room small long m h all. empties_first (ResiduesIn (residues_of c.args.keys.now c.args.names.now c.args.marks.now)) room c.args.store m h,
-    )
+loop-k-init c = (
+  record { keys = refl; names = refl; marks = refl },
+  omega arith,
+  λ room small long m h all. empties_first (ResiduesIn (residues_of c.args.keys.now c.args.names.now c.args.marks.now)) room c.args.store m h,
+)
 
 pub overflow_add-k : goal.overflow_add-k
 overflow_add-k c = record { fits = omega (arith, c.loop-k-test.true, c.entries_of-many.type_inv) }

@@ -1,7 +1,7 @@
 -- Each test is one of the definition, in its order.
 use mathlib.Core.Path.{◌≡◌, sym, ◌∙◌}
-use mathlib.Core.Bool.{Bool, true, false}
-use Rattle.building.proofs.CountLaws.{noChain, no_residue, no_atom, lacks_chain, lacks_residue, lacks_atom, lacks_none}
+use mathlib.Core.Bool.{Bool}
+use Rattle.building.proofs.CountLaws.{lacks_chain, lacks_residue, lacks_atom, lacks_none}
 use Rattle.building.proofs.sites.lack_of.Goals as goal
 
 -- what lacks room, as the tests say it

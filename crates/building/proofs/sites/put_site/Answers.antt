@@ -1,12 +1,10 @@
 -- What lacks the room is what the model lacks, and else what is stored is the model's next step: whatever the chain list, in which the site's chain was found.
 use mathlib.Core.Path.{◌≡◌, refl, sym, ◌∙◌, subst}
-use mathlib.Core.List.{List}
-use Prim.Native.Nat.{ℕ, ◌≤◌}
+use Prim.Native.Nat.{◌≤◌}
 use lib.ListN.{set, length-set}
 use Rattle.model.specs.Fold.{step}
 use Rattle.model.specs.Taken.{site}
 use Rattle.model.specs.declared.room.Lack.TheVariants.{Nothing}
-use Rattle.building.specs.declared.held.Held.{Held}
 use Rattle.building.specs.declared.sites.Counts.{Counts}
 use Rattle.building.specs.Gaps.{HoldsApart}
 use Rattle.building.specs.Holds.{Records, records_of}

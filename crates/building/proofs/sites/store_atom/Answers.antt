@@ -3,8 +3,8 @@ use mathlib.Core.Path.{refl, sym, subst}
 use borrow.Author.Tests.{not-true, not-false}
 use Rattle.model.specs.Fold.{atom_of, greater}
 use Rattle.model.specs.Keys.{atom_place}
-use Rattle.building.specs.Kinds.{AtomSlices, atoms_of, AtomsIn, AtomsLong, AtomsSame}
-use Rattle.building.specs.Stores.{Apart, PutsNew}
+use Rattle.building.specs.Kinds.{AtomSlices, atoms_of, AtomsIn}
+use Rattle.building.specs.Stores.{Apart}
 use Rattle.building.proofs.AtomStores.{atoms_same}
 use Rattle.building.proofs.AtomsMet.{atom_met}
 use Rattle.building.proofs.MetAgain.{put_first, new_place}

@@ -2,8 +2,8 @@
 use mathlib.Core.Path.{refl, sym, subst}
 use borrow.Author.Tests.{not-true, not-false}
 use Rattle.model.specs.Fold.{residue_of, first}
-use Rattle.building.specs.Kinds.{ResidueSlices, residues_of, ResiduesIn, ResiduesLong, ResiduesSame}
-use Rattle.building.specs.Stores.{Apart, PutsNew}
+use Rattle.building.specs.Kinds.{ResidueSlices, residues_of, ResiduesIn}
+use Rattle.building.specs.Stores.{Apart}
 use Rattle.building.proofs.MetAgain.{put_stays, put_first, new_place, met_value}
 use Rattle.building.proofs.sites.store_residue.Goals as goal
 

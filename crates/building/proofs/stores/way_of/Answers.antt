@@ -1,11 +1,8 @@
 -- A store that lies in the room has no count that the machine cannot hold, so each test is one of what the areas have and leaves room for one more.
-use mathlib.Core.Path.{◌≡◌, sym, ◌∙◌}
+use mathlib.Core.Path.{sym, ◌∙◌}
 use native.Mathlib.Omega.{arith}
-use Prim.Native.Nat.{ℕ, ◌-◌, ◌^◌, ◌<◌}
+use Prim.Native.Nat.{◌-◌}
 use borrow.Author.Tests.{ltb-true}
-use Rattle.gapped_slices.specs.Areas.{many}
-use Rattle.building.specs.declared.stores.Store.{Store}
-use Rattle.building.specs.Stores.{held, Lays}
 use Rattle.building.proofs.stores.way_of.Goals as goal
 
 pub returns-then-not-is_far : goal.returns-then-not-is_far
