@@ -1,60 +1,40 @@
 -- A refusal is told and all is cleared; else the records are gathered, and the finished model is left. The chains are so where another clears them by the
 -- answer.
--- the slices at entry, and gathered
 use mathlib.Core.Path.{refl, sym, ap, ◌∙◌}
 use mathlib.Core.List.{List}
 use Prim.Native.Nat.{ℕ}
 use Rattle.field_slices.specs.Clearing.{cleared}
-use Rattle.model.specs.Lent.{Lent, room_of}
+use Rattle.model.specs.Lent.{Lent, lent_of, room_of}
 use Rattle.building.specs.Holds.{records_in}
 use Rattle.finishing.proofs.ClearingLaws.{none_left}
-use Rattle.finishing.proofs.GivenBack.{given_back}
 use Rattle.readings.specs.Reading.{answer_of, left_by}
 use Rattle.readings.proofs.EndOfReading.{refused_stays, finished_ends, finished_leaves}
 use Rattle.readings.proofs.closing.close.Goals as goal
 
-abbrev entry : goal.Start → List ℕ → Lent
-entry s names = record {
-  chains = names;
-  residue_keys = s.args.residue-keys.now;
-  residue_names = s.args.residue-names.now;
-  residue_codes = s.args.residue-codes.now;
-  residue_categories = s.args.residue-categories.now;
-  residue_positions = s.args.residue-positions.now;
-  atom_keys = s.args.atom-keys.now;
-  atom_names = s.args.atom-names.now;
-  elements = s.args.elements.now;
-  positions = s.args.positions.now;
-  occupancies = s.args.occupancies.now;
-}
-
-abbrev gathered : goal.Start → goal.After-gather → List ℕ → Lent
-gathered s c names = let l = c.gather.new in record {
-  chains = names;
-  residue_keys = l.0;
-  residue_names = l.1.0;
-  residue_codes = s.args.residue-codes.now;
-  residue_categories = l.1.1.0;
-  residue_positions = s.args.residue-positions.now;
-  atom_keys = l.1.1.1.0;
-  atom_names = l.1.1.1.1.0;
-  elements = l.1.1.1.1.1.0;
-  positions = l.1.1.1.1.1.1.0;
-  occupancies = l.1.1.1.1.1.1.1.0;
-}
-
 pub returns-in-Refused : goal.returns-in-Refused
 returns-in-Refused c =
+    let a = c.args in
+    let n = c.clear_records.new in
     λ names making s p.
-    let l = entry c names in
-    let end = refused_stays (room_of l) (records_in l) c.args.standing _ making c.in-Refused.is s in
-    (sym (ap answer_of end), none_left l (given_back c.clear_records.new) c.no_records.ensures (c.clear_records.ensures names) ∙ sym (ap (left_by l) end))
+    let l : Lent = lent_of names a.residue_keys.now a.residue_names.now a.residue_codes.now a.residue_categories.now a.residue_positions.now
+        a.atom_keys.now a.atom_names.now a.elements.now a.positions.now a.occupancies.now in
+    let after : List ℕ → Lent = λ chains. lent_of chains n.residue_keys n.residue_names n.residue_codes n.residue_categories n.residue_positions
+        n.atom_keys n.atom_names n.elements n.positions n.occupancies in
+    let end = refused_stays (room_of l) (records_in l) a.standing _ making c.in-Refused.is s in
+    (sym (ap answer_of end), none_left l after c.no_records.ensures (c.clear_records.ensures names) ∙ sym (ap (left_by l) end))
 
 pub returns-in-Going : goal.returns-in-Going
 returns-in-Going c =
+    let a = c.args in
+    let g = c.gather.new in
     let f = c.finish_model-finish in
+    let n = f.new in
     λ names making s p.
-    let ends =
-    finished_ends (entry c names) (gathered c c names) _ c.args.standing f.result (c.gather.ensures names) refl refl (f.ensures names)
-    c.in-Going.is making s p in
-    (c.finished_by.ensures ∙ ends.0, ap (λ (n : ℕ). given_back f.new (cleared 0 n names)) (finished_leaves f.result _ c.finished_by.ensures) ∙ ends.1)
+    let l : Lent = lent_of names a.residue_keys.now a.residue_names.now a.residue_codes.now a.residue_categories.now a.residue_positions.now
+        a.atom_keys.now a.atom_names.now a.elements.now a.positions.now a.occupancies.now in
+    let gathered : Lent = lent_of names g.residue_keys g.residue_names a.residue_codes.now g.residue_marks a.residue_positions.now
+        g.atom_keys g.atom_names g.elements g.positions g.occupancies in
+    let after : List ℕ → Lent = λ chains. lent_of chains n.residue_keys n.residue_names n.residue_codes n.residue_categories n.residue_positions
+        n.atom_keys n.atom_names n.elements n.positions n.occupancies in
+    let ends = finished_ends l gathered _ a.standing f.result (c.gather.ensures names) refl refl (f.ensures names) c.in-Going.is making s p in
+    (c.finished_by.ensures ∙ ends.0, ap (λ (k : ℕ). after (cleared 0 k names)) (finished_leaves f.result _ c.finished_by.ensures) ∙ ends.1)
