@@ -25,13 +25,13 @@ module _ (n : ℕ) where
   greatest true h = ap (λ (t : Bool). cond t (suc n) n) (le-ltb n 18446744073709551615 h)
   greatest false h = refl
 
-  pub one_more_lem : (more : Bool) → more ≡ true → n < 18446744073709551615 → one_more more n ≡ suc n
+  pub counts_up : (more : Bool) → more ≡ true → n < 18446744073709551615 → one_more more n ≡ suc n
   unfolding one_more
-  one_more_lem more e h =
+  counts_up more e h =
       ap (λ (t : Bool). cond (t && ltb n 18446744073709551615) (suc n) n) e ∙ ap (λ (t : Bool). cond t (suc n) n) (lt-ltb n 18446744073709551615 h)
 
   pub more_counted : (more : Bool) → suc n < 2 ^ 64 → one_more more n ≡ cond more (suc n) n
-  more_counted true h = one_more_lem true refl (omega arith)
+  more_counted true h = counts_up true refl (omega arith)
   more_counted false h = none_more false refl
 
   pub no_fewer : (more : Bool) → n ≤ one_more more n

@@ -132,8 +132,8 @@ module _ (r : Records) (room : Room) (h : Held) (s : Site) (p : Places) (place :
   f : ChainFound (take h.counts.chains r.chains) s.chain p.chain
   f = subst (ChainFound (take h.counts.chains r.chains) s.chain) (sym sought.chain) found
 
-  chain_place_lem : p.chain ≡ chain_place s.chain st.chains
-  chain_place_lem = chain_is r.chains h.counts.chains st.chains s.chain p.chain a.chains f
+  place_of_chain : p.chain ≡ chain_place s.chain st.chains
+  place_of_chain = chain_is r.chains h.counts.chains st.chains s.chain p.chain a.chains f
 
   small : p.chain ≤ 4096
   small =
@@ -147,7 +147,7 @@ module _ (r : Records) (room : Room) (h : Held) (s : Site) (p : Places) (place :
 
   key_is : p.key ≡ residue_at chains s
   unfolding residue_at
-  key_is = sought.key small ∙ ap (λ (x : ℕ). residue_key x s.sequence s.insertion_code) (chain_place_lem ∙ sym (place_with s.chain st.chains))
+  key_is = sought.key small ∙ ap (λ (x : ℕ). residue_key x s.sequence s.insertion_code) (place_of_chain ∙ sym (place_with s.chain st.chains))
 
   -- ---- the residue
   residues_long : ResiduesLong (residues_in r) room.residues
@@ -186,8 +186,8 @@ module _ (r : Records) (room : Room) (h : Held) (s : Site) (p : Places) (place :
   both_held : (b : Area) (m : Map Atom) → AtomsIn (atoms_in r) b m → pairs (entriesIn b r.atom_keys) (entriesIn b r.atom_names) ≡ splits m
   both_held b m i = (λ j. pairs (i.keys_held j) (i.names_held j)) ∙ map_pairs (λ (e : Entry Atom). key_part e.key) (λ (e : Entry Atom). name_part e.key) m
 
-  atom_place_lem : (b : Area) (m : Map Atom) → AtomsIn (atoms_in r) b m → place_in below (p.key, s.atom) (pairs (entriesIn b r.atom_keys) (entriesIn b r.atom_names)) ≡ place_in ltb k (keys_of m)
-  atom_place_lem b m i = ap (place_in below (p.key, s.atom)) (both_held b m i) ∙ ap (λ (q : ℕ × ℕ). place_in below q (splits m)) split_is ∙ place_split k m
+  place_of_atom : (b : Area) (m : Map Atom) → AtomsIn (atoms_in r) b m → place_in below (p.key, s.atom) (pairs (entriesIn b r.atom_keys) (entriesIn b r.atom_names)) ≡ place_in ltb k (keys_of m)
+  place_of_atom b m i = ap (place_in below (p.key, s.atom)) (both_held b m i) ∙ ap (λ (q : ℕ × ℕ). place_in below q (splits m)) split_is ∙ place_split k m
 
   atom_sought : p.atom ≡ sought_by h.atoms (place_in ltb k (keys_of a.atoms.first)) (place_in ltb k (keys_of a.atoms.second))
   atom_sought =
@@ -201,7 +201,7 @@ module _ (r : Records) (room : Room) (h : Held) (s : Site) (p : Places) (place :
       sought.atom (lies (length r.atom_keys) atoms_long.keys) (lies (length r.atom_names) atoms_long.names) (under (length r.atom_keys) atoms_long.keys) (under (length r.atom_names) atoms_long.names)
       (ascends h.atoms.main a.atoms.first main.fields (keys_ascend 0 a.atoms.first main.ascending))
       (ascends h.atoms.pocket a.atoms.second pocket.fields (keys_ascend 0 a.atoms.second pocket.ascending))
-      ∙ (λ i. sought_by h.atoms (atom_place_lem h.atoms.main a.atoms.first main.fields i) (atom_place_lem h.atoms.pocket a.atoms.second pocket.fields i))
+      ∙ (λ i. sought_by h.atoms (place_of_atom h.atoms.main a.atoms.first main.fields i) (place_of_atom h.atoms.pocket a.atoms.second pocket.fields i))
 
   atom_new : p.atom.new ≡ is_none (find (atom_at chains s) st.atoms)
   atom_new =
@@ -215,7 +215,7 @@ module _ (r : Records) (room : Room) (h : Held) (s : Site) (p : Places) (place :
   lack_is =
       let c = h.counts in
       let e1 : no_room (is_new_chain c p) room.chains c.chains ≡ no_room (leb (length st.chains) (chain_place s.chain st.chains)) room.chains (length st.chains)
-      = λ i. no_room (leb (a.chains.many i) (chain_place_lem i)) room.chains (a.chains.many i) in
+      = λ i. no_room (leb (a.chains.many i) (place_of_chain i)) room.chains (a.chains.many i) in
       let e2 : no_room p.residue.new room.residues c.residues ≡ no_room (is_none (find (residue_at chains s) st.residues)) room.residues (length st.residues)
       = λ i. no_room (residue_new i) room.residues (a.counted.residues i) in
       let e3 : no_room p.atom.new room.atoms c.atoms ≡ no_room (is_none (find (atom_at chains s) st.atoms)) room.atoms (length st.atoms)

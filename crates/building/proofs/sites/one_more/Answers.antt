@@ -1,7 +1,7 @@
 -- The three cases of the definition.
 use mathlib.Core.Path.{sym, ◌∙◌}
 use native.Mathlib.Numerals.{add-one}
-use Rattle.building.proofs.CountLaws.{none_more, greatest, one_more_lem}
+use Rattle.building.proofs.CountLaws.{none_more, greatest, counts_up}
 use Rattle.building.proofs.sites.one_more.Goals as goal
 
 pub returns-then-not-more : goal.returns-then-not-more
@@ -11,4 +11,4 @@ pub returns-then-n-ge18446744073709551615 : goal.returns-then-n-ge18446744073709
 returns-then-n-ge18446744073709551615 c = sym (greatest c.args.n c.args.more c.if-n-ge18446744073709551615.true)
 
 pub returns : goal.returns
-returns c = add-one c.args.n ∙ sym (one_more_lem c.args.n c.args.more c.if-not-more.false c.if-n-ge18446744073709551615.false)
+returns c = add-one c.args.n ∙ sym (counts_up c.args.n c.args.more c.if-not-more.false c.if-n-ge18446744073709551615.false)
