@@ -8,7 +8,7 @@ use Rattle.writer.proofs.chains.chain_name.Goals as goal
 pub returns : goal.returns
 returns c =
     let a = c.args in
-    let all : a.chain-count - 0 ≡ a.chain-count = omega arith in
+    let all : a.chain_count - 0 ≡ a.chain_count = omega arith in
     c.u64_at.ensures
     ∙ ap (λ n. get_or (take n a.chains.now) c.chain_part.result 0) all
-    ∙ ap (λ k. get_or (take a.chain-count a.chains.now) k 0) c.chain_part.ensures
+    ∙ ap (λ k. get_or (take a.chain_count a.chains.now) k 0) c.chain_part.ensures

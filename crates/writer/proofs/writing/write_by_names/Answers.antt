@@ -1,27 +1,24 @@
 -- A well-formed model goes on, and any other is refused.
--- the slices at entry
 use mathlib.Core.Path.{sym, ◌∙◌}
 use Rattle.model.specs.Lent.{Lent, lent_of}
 use Rattle.writer.proofs.WritingLaws.{not_well_formed}
 use Rattle.writer.proofs.writing.write_by_names.Goals as goal
 
-abbrev lent : goal.Start → Lent
-lent s =
+-- the slices at entry
+abbrev lent : goal.Args → Lent
+lent a =
     lent_of
-    s.args.chains.now
-    s.args.residue-keys.now
-    s.args.residue-names.now
-    s.args.residue-codes.now
-    s.args.residue-categories.now
-    s.args.residue-positions.now
-    s.args.atom-keys.now
-    s.args.atom-names.now
-    s.args.elements.now
-    s.args.positions.now
-    s.args.occupancies.now
-
-abbrev start : goal.After-is_well_formed → goal.Start
-start p = p
+    a.chains.now
+    a.residue_keys.now
+    a.residue_names.now
+    a.residue_codes.now
+    a.residue_categories.now
+    a.residue_positions.now
+    a.atom_keys.now
+    a.atom_names.now
+    a.elements.now
+    a.positions.now
+    a.occupancies.now
 
 pub returns-then-is_well_formed : goal.returns-then-is_well_formed
 returns-then-is_well_formed c =
@@ -29,5 +26,4 @@ returns-then-is_well_formed c =
 
 pub returns : goal.returns
 returns c =
-    let s = start c in
-    not_well_formed s.args.out.now (lent s) s.args.counts (sym c.is_well_formed.ensures ∙ c.if-is_well_formed.false)
+    not_well_formed c.args.out.now (lent c.args) c.args.counts (sym c.is_well_formed.ensures ∙ c.if-is_well_formed.false)
