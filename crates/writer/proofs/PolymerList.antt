@@ -1,18 +1,24 @@
 -- A row is never empty, so the polymer list is empty exactly where no residue is of a polymer.
-use mathlib.Core.Path.{◌≡◌, refl, sym}
+use mathlib.Core.Path.{◌≡◌, refl, sym, ap, ◌∙◌}
 use mathlib.Core.Bool.{Bool, true, false, ◌||◌, cond, false≢true}
 use mathlib.Core.List.{List, [], ◌∷◌, ◌++◌, map}
-use Prim.Native.Nat.{ℕ, ◌+◌, ◌<◌}
+use Prim.Native.Nat.{ℕ, ◌<◌}
 use native.Mathlib.Omega.{arith}
 use lib.ListN.{length, length-append}
 use Rattle.ascii.specs.Bytes.{bytes}
 use Rattle.tokens.specs.Line.{spaced}
+use Rattle.model.specs.Lent.{list_from}
 use Rattle.model.specs.Lists.{any}
 use Rattle.model.specs.Records.{ResidueRecord, Model}
 use Rattle.model.specs.Termini.{is_polymer}
 use Rattle.row_texts.specs.Rows.{polymer_fields, polymer_text}
 use Rattle.row_texts.specs.declared.loop_rows.PolymerRow.{PolymerRow}
+use Rattle.wellformed.proofs.SliceLaws.{map_from}
 use Rattle.writer.specs.Text.{lines_text, closing, polymer_headers, polymer_row_of, polymer_rows, polymer_list}
+
+-- a test of the codes is of every residue
+pub tested : (at : ℕ → ResidueRecord) (n : ℕ) {some : Bool} → some ≡ any is_polymer (list_from (λ i. (at i).code) 0 n) → some ≡ any is_polymer (map (λ r. r.code) (list_from at 0 n))
+tested at n e = e ∙ ap (any is_polymer) (sym (map_from (λ r. r.code) at 0 n))
 
 row_some : (row : PolymerRow) → 0 < length (polymer_text row)
 unfolding polymer_text

@@ -1,6 +1,6 @@
 // The atom loop: a row for each atom.
 ghost use Rattle.std.specs.Prelude.{◌≡◌, true, ◌≤◌, length, take};
-ghost use Rattle.model.specs.Lent.{lent, model_in};
+ghost use Rattle.model.specs.Lent.{lent_of, model_in};
 ghost use Rattle.model.specs.WellFormed.{well_formed_in};
 ghost use Rattle.row_texts.specs.Emitted.{Emits};
 ghost use Rattle.writer.specs.Text.{atom_loop};
@@ -58,7 +58,7 @@ fn put_atom_rows(
     counts: Room,
 ) -> usize
     requires { Walkable chains.now counts }
-    ensures { let l = (lent chains residue_keys residue_names residue_codes residue_categories residue_positions atom_keys atom_names elements positions occupancies).entry in
+    ensures { let l = lent_of chains.now residue_keys.now residue_names.now residue_codes.now residue_categories.now residue_positions.now atom_keys.now atom_names.now elements.now positions.now occupancies.now in
         well_formed_in l counts ≡ true → Emits out at (atoms_of (model_in l counts)) result }
 {
     let mut place = at;
@@ -105,7 +105,7 @@ pub(crate) fn put_atom_loop(
     counts: Room,
 ) -> usize
     requires { Walkable chains.now counts }
-    ensures { let l = (lent chains residue_keys residue_names residue_codes residue_categories residue_positions atom_keys atom_names elements positions occupancies).entry in
+    ensures { let l = lent_of chains.now residue_keys.now residue_names.now residue_codes.now residue_categories.now residue_positions.now atom_keys.now atom_names.now elements.now positions.now occupancies.now in
         well_formed_in l counts ≡ true → Emits out at (atom_loop (atoms_of (model_in l counts))) result }
 {
     let at = put_atom_headers(out, at);

@@ -1,6 +1,6 @@
 // Where the text of a model ends, told without a buffer: part after part as it is put, so that each text and its length have one definition.
 ghost use Rattle.std.specs.Prelude.{◌≡◌, true, ◌+◌, ◌^◌, ◌<◌};
-ghost use Rattle.model.specs.Lent.{lent, list_from, residue_from, model_in};
+ghost use Rattle.model.specs.Lent.{lent_of, list_from, residue_from, model_in};
 ghost use Rattle.model.specs.WellFormed.{well_formed_in};
 ghost use Rattle.row_texts.specs.Emitted.{Ends};
 ghost use Rattle.wellformed.specs.Slices.{residues_ascend};
@@ -92,7 +92,7 @@ fn past_atom_rows(
     counts: Room,
 ) -> usize
     requires { Walkable chains.now counts }
-    ensures { let l = (lent chains residue_keys residue_names residue_codes residue_categories residue_positions atom_keys atom_names elements positions occupancies).entry in
+    ensures { let l = lent_of chains.now residue_keys.now residue_names.now residue_codes.now residue_categories.now residue_positions.now atom_keys.now atom_names.now elements.now positions.now occupancies.now in
         well_formed_in l counts ≡ true → Ends at (atoms_of (model_in l counts)) result }
 {
     let mut place = at;
@@ -138,7 +138,7 @@ fn past_atom_loop(
     counts: Room,
 ) -> usize
     requires { Walkable chains.now counts }
-    ensures { let l = (lent chains residue_keys residue_names residue_codes residue_categories residue_positions atom_keys atom_names elements positions occupancies).entry in
+    ensures { let l = lent_of chains.now residue_keys.now residue_names.now residue_codes.now residue_categories.now residue_positions.now atom_keys.now atom_names.now elements.now positions.now occupancies.now in
         well_formed_in l counts ≡ true → Ends at (atom_loop (atoms_of (model_in l counts))) result }
 {
     let mut none = [0u8; 0];
@@ -177,7 +177,7 @@ pub(crate) fn past_text(
     counts: Room,
 ) -> usize
     requires { Walkable chains.now counts }
-    ensures { let l = (lent chains residue_keys residue_names residue_codes residue_categories residue_positions atom_keys atom_names elements positions occupancies).entry in
+    ensures { let l = lent_of chains.now residue_keys.now residue_names.now residue_codes.now residue_categories.now residue_positions.now atom_keys.now atom_names.now elements.now positions.now occupancies.now in
         well_formed_in l counts ≡ true → Ends 0 (text_of (model_in l counts)) result }
 {
     let mut none = [0u8; 0];

@@ -2,7 +2,7 @@
 ghost use Rattle.std.specs.Prelude.{◌≡◌, true, ◌≤◌, length, take};
 ghost use Rattle.names.specs.Packing.{unpacked};
 ghost use Rattle.tokens.specs.Quote.{has};
-ghost use Rattle.model.specs.Lent.{lent, model_in};
+ghost use Rattle.model.specs.Lent.{lent_of, model_in};
 ghost use Rattle.model.specs.WellFormed.{well_formed_in};
 ghost use Rattle.writer.specs.Unwritable.{holds_both_quotes, is_unwritable_code, unwritable_in};
 ghost use Rattle.writer.specs.PolymerNumbers.{unwritable_by, Walkable};
@@ -79,7 +79,7 @@ pub(crate) fn first_unwritable(
     counts: Room,
 ) -> usize
     requires { Walkable chains.now counts }
-    ensures { let l = (lent chains residue_keys residue_names residue_codes residue_categories residue_positions atom_keys atom_names elements positions occupancies).entry in
+    ensures { let l = lent_of chains.now residue_keys.now residue_names.now residue_codes.now residue_categories.now residue_positions.now atom_keys.now atom_names.now elements.now positions.now occupancies.now in
         well_formed_in l counts ≡ true → result ≡ unwritable_in (model_in l counts) }
 {
     let mut walk = begin_walk(

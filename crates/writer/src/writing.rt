@@ -1,6 +1,6 @@
 // `write_by_names`: refusals 12, 13 and 14 in order, and then the text.
 ghost use Rattle.std.specs.Prelude.{◌≡◌, true};
-ghost use Rattle.model.specs.Lent.{lent, model_in};
+ghost use Rattle.model.specs.Lent.{lent_of, model_in};
 ghost use Rattle.model.specs.WellFormed.{well_formed_in};
 ghost use Rattle.row_texts.specs.Emitted.{Emits};
 ghost use Rattle.writer.specs.PolymerNumbers.{Walkable};
@@ -34,7 +34,7 @@ fn put_text(
     counts: Room,
 ) -> usize
     requires { Walkable chains.now counts }
-    ensures { let l = (lent chains residue_keys residue_names residue_codes residue_categories residue_positions atom_keys atom_names elements positions occupancies).entry in
+    ensures { let l = lent_of chains.now residue_keys.now residue_names.now residue_codes.now residue_categories.now residue_positions.now atom_keys.now atom_names.now elements.now positions.now occupancies.now in
         well_formed_in l counts ≡ true → Emits out 0 (text_of (model_in l counts)) result }
 {
     let at = put_opening(out, 0);
@@ -83,7 +83,7 @@ fn write_fitting(
     counts: Room,
 ) -> Answer
     requires { Walkable chains.now counts }
-    ensures { let l = (lent chains residue_keys residue_names residue_codes residue_categories residue_positions atom_keys atom_names elements positions occupancies).entry in
+    ensures { let l = lent_of chains.now residue_keys.now residue_names.now residue_codes.now residue_categories.now residue_positions.now atom_keys.now atom_names.now elements.now positions.now occupancies.now in
         well_formed_in l counts ≡ true → Writes out (λ size. fitted size (text_of (model_in l counts))) result }
 {
     let needed = past_text(
@@ -138,7 +138,7 @@ fn write_writable(
     counts: Room,
 ) -> Answer
     requires { Walkable chains.now counts }
-    ensures { let l = (lent chains residue_keys residue_names residue_codes residue_categories residue_positions atom_keys atom_names elements positions occupancies).entry in
+    ensures { let l = lent_of chains.now residue_keys.now residue_names.now residue_codes.now residue_categories.now residue_positions.now atom_keys.now atom_names.now elements.now positions.now occupancies.now in
         well_formed_in l counts ≡ true → Writes out (write_of l counts) result }
 {
     let atom = first_unwritable(
@@ -192,7 +192,7 @@ pub fn write_well_formed(
     counts: Room,
     out: &mut [u8],
 ) -> Answer
-    ensures { let l = (lent chains residue_keys residue_names residue_codes residue_categories residue_positions atom_keys atom_names elements positions occupancies).entry in
+    ensures { let l = lent_of chains.now residue_keys.now residue_names.now residue_codes.now residue_categories.now residue_positions.now atom_keys.now atom_names.now elements.now positions.now occupancies.now in
         well_formed_in l counts ≡ true → Writes out (write_of l counts) result }
 {
     if chains.len() < counts.chains {
@@ -234,7 +234,7 @@ pub fn write_by_names(
     counts: Room,
     out: &mut [u8],
 ) -> Answer
-    ensures { let l = (lent chains residue_keys residue_names residue_codes residue_categories residue_positions atom_keys atom_names elements positions occupancies).entry in
+    ensures { let l = lent_of chains.now residue_keys.now residue_names.now residue_codes.now residue_categories.now residue_positions.now atom_keys.now atom_names.now elements.now positions.now occupancies.now in
         Writes out (write_of l counts) result }
 {
     if is_well_formed(

@@ -8,9 +8,8 @@ use Rattle.writer.proofs.atoms.put_atom_rows.Given as goal
 
 abbrev pub invariant-loop-i : goal.invariant-loop-i
 invariant-loop-i l =
-    let l = lent_of l.chains l.residue_keys l.residue_names l.residue_codes l.residue_categories l.residue_positions l.atom_keys l.atom_names l.elements l.positions l.occupancies in
-    RowsTold l l.counts (λ t. Emitted l.initial.out l.at t l.place l.out) l.i l.walk × (length l.out ≡ length l.initial.out)
+    let slices = lent_of l.chains l.residue_keys l.residue_names l.residue_codes l.residue_categories l.residue_positions l.atom_keys l.atom_names l.elements l.positions l.occupancies in
+    RowsTold slices l.counts (λ t. Emitted l.initial.out l.at t l.place l.out) l.i l.walk × (length l.out ≡ length l.initial.out)
 
 abbrev pub decreases-loop-i : goal.decreases-loop-i
-decreases-loop-i l =
-    l.counts.atoms - l.i
+decreases-loop-i l = l.counts.atoms - l.i

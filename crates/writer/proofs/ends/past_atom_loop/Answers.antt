@@ -13,7 +13,7 @@ returns c =
     let rows = c.past_atom_rows-at in
     let headers = c.put_atom_headers-at in
     let a = c.args in
-    let l = lent_of a.chains.now a.residue-keys.now a.residue-names.now a.residue-codes.now a.residue-categories.now a.residue-positions.now a.atom-keys.now a.atom-names.now a.elements.now a.positions.now a.occupancies.now in
+    let l = lent_of a.chains.now a.residue_keys.now a.residue_names.now a.residue_codes.now a.residue_categories.now a.residue_positions.now a.atom_keys.now a.atom_names.now a.elements.now a.positions.now a.occupancies.now in
     let text = atoms_of (model_in l a.counts) in
     λ well.
     ends_then a.at (lines_text atom_headers) (text ++ lines_text closing) headers.ensures.place

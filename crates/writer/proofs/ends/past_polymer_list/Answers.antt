@@ -1,39 +1,22 @@
 -- Where a residue is of a polymer, headers, rows and `#` are passed one after the other; else the list is empty.
--- the residues at entry
-use mathlib.Core.Path.{◌≡◌, sym, ap, ◌∙◌, subst}
-use mathlib.Core.List.{List, ◌++◌, map}
+use mathlib.Core.Path.{sym, ap, ◌∙◌, subst}
+use mathlib.Core.List.{List, ◌++◌}
 use Prim.Native.Nat.{ℕ}
 use Rattle.model.specs.Lent.{list_from, residue_from}
-use Rattle.model.specs.Lists.{any}
-use Rattle.model.specs.Records.{ResidueRecord}
-use Rattle.model.specs.Termini.{is_polymer}
 use Rattle.row_texts.specs.Emitted.{Ends}
-use Rattle.wellformed.proofs.SliceLaws.{map_from}
 use Rattle.writer.specs.Text.{lines_text, closing, polymer_headers, polymer_list}
 use Rattle.writer.specs.PolymerNumbers.{polymers_of}
 use Rattle.writer.proofs.EndsLaws.{nothing_ends, ends_then}
 use Rattle.writer.proofs.NumberWalk.{alone}
-use Rattle.writer.proofs.PolymerList.{rows_none, rows_some, list_some}
+use Rattle.writer.proofs.PolymerList.{tested, rows_none, rows_some, list_some}
 use Rattle.writer.proofs.ends.past_polymer_list.Goals as goal
-
-abbrev residue : goal.Start → ℕ → ResidueRecord
-residue s = residue_from s.args.keys.now s.args.names.now s.args.codes.now s.args.categories.now s.args.positions.now
-
-abbrev all : goal.Start → List ResidueRecord
-all s = list_from (residue s) 0 s.args.n
-
-abbrev start : goal.After-has_polymers → goal.Start
-start p = p
-
--- the test is of every residue
-tested : (p : goal.After-has_polymers) → p.has_polymers.result ≡ any is_polymer (map (λ r. r.code) (all (start p)))
-tested p = p.has_polymers.ensures ∙ ap (any is_polymer) (sym (map_from (λ r. r.code) (residue (start p)) 0 (start p).args.n))
 
 pub returns-then-not-has_polymers : goal.returns-then-not-has_polymers
 returns-then-not-has_polymers c =
-    let s = start c in
-    let none = rows_none (alone (residue s) s.args.n) (all s) (sym (tested c) ∙ c.if-not-has_polymers.true) in
-    λ up. subst (λ (t : List ℕ). Ends s.args.at t s.args.at) (ap polymer_list (sym none)) (nothing_ends s.args.at)
+    let a = c.args in
+    let at = residue_from a.keys.now a.names.now a.codes.now a.categories.now a.positions.now in
+    let none = rows_none (alone at a.n) (list_from at 0 a.n) (sym (tested at a.n c.has_polymers.ensures) ∙ c.if-not-has_polymers.true) in
+    λ up. subst (λ (t : List ℕ). Ends a.at t a.at) (ap polymer_list (sym none)) (nothing_ends a.at)
 
 pub returns : goal.returns
 unfolding lines_text
@@ -41,9 +24,10 @@ returns c =
     let end = c.put_word in
     let rows = c.past_polymer_rows-at in
     let headers = c.put_polymer_headers-at in
-    let s = start c in
-    let text = polymers_of (all s) in
-    let some = rows_some (alone (residue s) s.args.n) (all s) (sym (tested c) ∙ c.if-not-has_polymers.false) in
-    λ up. subst (λ (t : List ℕ). Ends s.args.at t end.result) (sym (list_some text some))
-    (ends_then s.args.at (lines_text polymer_headers) (text ++ lines_text closing) headers.ensures.place
+    let a = c.args in
+    let at = residue_from a.keys.now a.names.now a.codes.now a.categories.now a.positions.now in
+    let text = polymers_of (list_from at 0 a.n) in
+    let some = rows_some (alone at a.n) (list_from at 0 a.n) (sym (tested at a.n c.has_polymers.ensures) ∙ c.if-not-has_polymers.false) in
+    λ up. subst (λ (t : List ℕ). Ends a.at t end.result) (sym (list_some text some))
+    (ends_then a.at (lines_text polymer_headers) (text ++ lines_text closing) headers.ensures.place
     (ends_then headers.result text (lines_text closing) (rows.ensures up) end.ensures.place))

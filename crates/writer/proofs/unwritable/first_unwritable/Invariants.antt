@@ -11,9 +11,8 @@ use Rattle.writer.proofs.unwritable.first_unwritable.Given as goal
 
 abbrev pub invariant-loop-i : goal.invariant-loop-i
 invariant-loop-i l =
-    let l = lent_of l.chains l.residue_keys l.residue_names l.residue_codes l.residue_categories l.residue_positions l.atom_keys l.atom_names l.elements l.positions l.occupancies in
-    Bounded l.i l.walk × (well_formed_in l l.counts ≡ true → (unwritable_in (model_in l l.counts) ≡ leftFrom l l.counts l.i) × Walked l l.counts.residues l.counts.atoms l.i l.walk)
+    let slices = lent_of l.chains l.residue_keys l.residue_names l.residue_codes l.residue_categories l.residue_positions l.atom_keys l.atom_names l.elements l.positions l.occupancies in
+    Bounded l.i l.walk × (well_formed_in slices l.counts ≡ true → (unwritable_in (model_in slices l.counts) ≡ leftFrom slices l.counts l.i) × Walked slices l.counts.residues l.counts.atoms l.i l.walk)
 
 abbrev pub decreases-loop-i : goal.decreases-loop-i
-decreases-loop-i l =
-    l.counts.atoms - l.i
+decreases-loop-i l = l.counts.atoms - l.i
