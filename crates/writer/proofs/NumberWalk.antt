@@ -21,27 +21,27 @@ use Rattle.writer.proofs.RowsJoined.{polymer_row}
 
 module _ (at : ℕ → ResidueRecord) (m : ℕ) where
   -- the number and the chain of the residue before index i
-  abbrev numberBefore : ℕ → ℕ
-  numberBefore zero = 0
-  numberBefore (suc j) = number_in (list_from at 0 m) (at j).key
+  abbrev number_before : ℕ → ℕ
+  number_before zero = 0
+  number_before (suc j) = number_in (list_from at 0 m) (at j).key
 
-  abbrev chainBefore : ℕ → ℕ
-  chainBefore zero = 0
-  chainBefore (suc j) = chain_part (at j).key
+  abbrev chain_before : ℕ → ℕ
+  chain_before zero = 0
+  chain_before (suc j) = chain_part (at j).key
 
   pub record Numbered (i number chain : ℕ) : Type 0 where
-    pub counts : number ≡ numberBefore i
-    pub place : chain ≡ chainBefore i
+    pub counts : number ≡ number_before i
+    pub place : chain ≡ chain_before i
 
   pub none_numbered : Numbered 0 0 0
   none_numbered = record { counts = refl; place = refl }
 
   module _ (i number chain : ℕ) where
     pub numbered : number ≡ number_in (list_from at 0 m) (at i).key → chain ≡ chain_part (at i).key → Numbered (i + 1) number chain
-    numbered e f = record { counts = e ∙ ap numberBefore (sym (add-one i)); place = f ∙ ap chainBefore (sym (add-one i)) }
+    numbered e f = record { counts = e ∙ ap number_before (sym (add-one i)); place = f ∙ ap chain_before (sym (add-one i)) }
 
     module _ (a : ascends (map (λ r. r.key) (list_from at 0 m)) ≡ true) (before : Numbered i number chain) where
-      step : (j : ℕ) → j < m → number_after (numberBefore j) (chainBefore j) (residue_out (at j)) ≡ number_in (list_from at 0 m) (at j).key
+      step : (j : ℕ) → j < m → number_after (number_before j) (chain_before j) (residue_out (at j)) ≡ number_in (list_from at 0 m) (at j).key
       unfolding number_after residue_out
       step zero h =
           ap (λ (n : ℕ). n + count (is_polymer (at 0).code)) (either (eqb (chain_part (at 0).key) 0))
@@ -56,7 +56,7 @@ module _ (at : ℕ → ResidueRecord) (m : ℕ) where
       pub number_goes : i < m → number_after number chain (residue_out (at i)) ≡ number_in (list_from at 0 m) (at i).key
       number_goes h =
           ap (λ (n : ℕ). number_after n chain (residue_out (at i))) before.counts
-          ∙ ap (λ (c : ℕ). number_after (numberBefore i) c (residue_out (at i))) before.place
+          ∙ ap (λ (c : ℕ). number_after (number_before i) c (residue_out (at i))) before.place
           ∙ step i h
 
   -- the row of the residue at index i

@@ -22,18 +22,18 @@ module _ (l : Lent) (counts : Room) where
   model = model_in l counts
 
   -- the first unwritable one of those from index i on
-  abbrev pub leftFrom : ℕ → ℕ
-  leftFrom i = first_unwritable model (suc i) (rest (atom_in l) counts.atoms i)
+  abbrev pub left_from : ℕ → ℕ
+  left_from i = first_unwritable model (suc i) (rest (atom_in l) counts.atoms i)
 
   -- what the walk sees of the atom at index i
   abbrev pub seen_at : ℕ → Walk → Bool
   seen_at i w = unwritable_by (take counts.chains l.chains) (atom_out (atom_in l i)) (walked_on l i w)
 
-  pub left_all : unwritable_in model ≡ leftFrom 0
+  pub left_all : unwritable_in model ≡ left_from 0
   unfolding model_in
   left_all = ap (first_unwritable model 1) (rest_all (atom_in l) counts.atoms)
 
-  pub left_none : (i : ℕ) → counts.atoms ≤ i → leftFrom i ≡ 0
+  pub left_none : (i : ℕ) → counts.atoms ≤ i → left_from i ≡ 0
   unfolding first_unwritable
   left_none i h = ap (first_unwritable model (suc i)) (rest_end (atom_in l) counts.atoms i h)
 
@@ -44,7 +44,7 @@ module _ (l : Lent) (counts : Room) where
         ap (λ (r : Residue). holds_both_quotes (atom_in l i).name || holds_both_quotes r.name || holds_both_quotes (get_or (take counts.chains l.chains) (chain_part (atom_in l i).key) 0) || is_unwritable_code (code_part (atom_in l i).key))
         (walk_residue l counts well i h w before)
 
-    turn : leftFrom i ≡ cond (seen_at i w) (suc i) (leftFrom (i + 1))
+    turn : left_from i ≡ cond (seen_at i w) (suc i) (left_from (i + 1))
     unfolding first_unwritable
     turn =
         ap (first_unwritable model (suc i)) (rest_turn (atom_in l) counts.atoms i h)
@@ -52,8 +52,8 @@ module _ (l : Lent) (counts : Room) where
         ∙ ap (λ (n : ℕ). cond (seen_at i w) (suc i) (first_unwritable model (suc n) (rest (atom_in l) counts.atoms (i + 1)))) (sym (add-one i))
 
     module _ (answer : Bool) (is : answer ≡ seen_at i w) where
-      pub left_found : answer ≡ true → leftFrom i ≡ i + 1
-      left_found e = turn ∙ ap (λ (b : Bool). cond b (suc i) (leftFrom (i + 1))) (sym is ∙ e) ∙ sym (add-one i)
+      pub left_found : answer ≡ true → left_from i ≡ i + 1
+      left_found e = turn ∙ ap (λ (b : Bool). cond b (suc i) (left_from (i + 1))) (sym is ∙ e) ∙ sym (add-one i)
 
-      pub left_on : answer ≡ false → leftFrom i ≡ leftFrom (i + 1)
-      left_on e = turn ∙ ap (λ (b : Bool). cond b (suc i) (leftFrom (i + 1))) (sym is ∙ e)
+      pub left_on : answer ≡ false → left_from i ≡ left_from (i + 1)
+      left_on e = turn ∙ ap (λ (b : Bool). cond b (suc i) (left_from (i + 1))) (sym is ∙ e)

@@ -25,7 +25,7 @@ loop-i-preserved c =
     let l = c.loop-i in
     let put = c.put_atom_row-place in (
       rows_go _ _ c.loop-i-test.true l.invariant.0 c.atom_at-atom.ensures c.walk_to-walk.ensures c.atom_row-row.ensures
-      (λ t near told. then told (λ _. put.ensures.0 near) c.well_formed.0.0),
+          (λ t near told. then told (λ _. put.ensures.0 near) c.well_formed.0.0),
       put.ensures.1 ∙ l.invariant.1,
     )
 

@@ -1,6 +1,5 @@
 -- One is among all exactly where one is among those that are left, as long as none was found.
 use mathlib.Core.Path.{sym, ap, ◌∙◌}
-use Prim.Native.Nat.{◌-◌}
 use Rattle.model.specs.Lists.{any}
 use Rattle.model.specs.Termini.{is_polymer}
 use Rattle.wellformed.specs.Slices.{entries}

@@ -27,7 +27,7 @@ loop-i-preserved c =
     let l = c.loop-i in
     let put = c.put_polymer-place in (
       polymers_go _ _ c.loop-i-test.true l.invariant.0 c.residue_at-residue.ensures c.number_after-number.ensures
-      (λ t told. then told (λ _. put.ensures) c.well_formed.0.0),
+          (λ t told. then told (λ _. put.ensures) c.well_formed.0.0),
       put.ensures.same ∙ l.invariant.1,
     )
 

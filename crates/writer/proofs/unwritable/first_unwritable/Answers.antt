@@ -1,7 +1,7 @@
 -- The first unwritable atom of those that are left is that of all, as long as none was found; and the walk stands in the residue of each.
 use mathlib.Core.Path.{◌≡◌, sym, ap, ◌∙◌, subst}
-use mathlib.Core.Bool.{Bool, true}
-use Prim.Native.Nat.{ℕ, ◌+◌, ◌<◌}
+use mathlib.Core.Bool.{Bool}
+use Prim.Native.Nat.{ℕ, ◌+◌}
 use native.Mathlib.Omega.{arith}
 use lib.ListN.{take}
 use Rattle.model.specs.Lent.{Lent, lent_of, residue_in, atom_in}
@@ -9,7 +9,7 @@ use Rattle.model.specs.TakenOut.{atom_out}
 use Rattle.model.specs.declared.room.Room.{Room}
 use Rattle.model.specs.declared.taken_out.Atom.{Atom}
 use Rattle.wellformed.specs.Slices.{entries}
-use Rattle.writer.specs.PolymerNumbers.{begun, walked_to, unwritable_by}
+use Rattle.writer.specs.PolymerNumbers.{walked_to, unwritable_by}
 use Rattle.writer.specs.declared.polymer_numbers.Walk.{Walk}
 use Rattle.writer.proofs.ModelWalk.{walked_on, Walked, walk_begins, walk_goes}
 use Rattle.writer.proofs.Unwritten.{seen_at, left_all, left_none, left_found, left_on}
