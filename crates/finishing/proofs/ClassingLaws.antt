@@ -42,10 +42,9 @@ module _ (keys names₀ codes₀ marks₀ atoms : List ℕ) (n : ℕ) where
   -- at residue i: its key, the atoms before its own, whether it has one alone, and what is stored of it
   module _ {names codes categories : List ℕ} {at i : ℕ} (s : Classing names codes categories at i) (h : i < n) {key next : ℕ} {lone unknown : Bool}
       {names' codes' categories' : List ℕ} (k : key ≡ get_or keys i 0) (p : next ≡ at + lessers key (drop at atoms)) (a : lone ≡ alone_in key (drop next atoms))
-      (w : (unknown ≡ is_unknown_by (class_of (get_or names i 0) lone).code (get_or categories i 0))
-      × ((names' ≡ set names i (class_of (get_or names i 0) lone).name)
-      × ((codes' ≡ set codes i (class_of (get_or names i 0) lone).code)
-      × (categories' ≡ set categories i (class_of (get_or names i 0) lone).category)))) where
+      (u : unknown ≡ is_unknown_by (class_of (get_or names i 0) lone).code (get_or categories i 0))
+      (names_after : names' ≡ set names i (class_of (get_or names i 0) lone).name) (codes_after : codes' ≡ set codes i (class_of (get_or names i 0) lone).code)
+      (categories_after : categories' ≡ set categories i (class_of (get_or names i 0) lone).category) where
     next_is : next ≡ passed_at keys atoms (suc i)
     unfolding passed_at
     next_is = p ∙ (λ j. s.passed j + lessers (k j) (drop (s.passed j) atoms))
@@ -60,15 +59,15 @@ module _ (keys names₀ codes₀ marks₀ atoms : List ℕ) (n : ℕ) where
     unknown_is : unknown ≡ unknown_at keys names₀ marks₀ atoms i
     unknown_is =
         let e : get_or categories i 0 ≡ get_or marks₀ i 0 = ap (λ (l : List ℕ). get_or l i 0) s.categories_stored ∙ filled_past (λ j. (class_at keys names₀ atoms j).category) i marks₀ i 0 (le_refl i) in
-        w.0 ∙ (λ j. is_unknown_by (class_is j).code (e j))
+        u ∙ (λ j. is_unknown_by (class_is j).code (e j))
 
     pub classing_on : unknown ≡ false → Classing names' codes' categories' next (i + 1)
     classing_on e = record {
       inside = omega arith;
-      names_stored = filled_on (λ j. (class_at keys names₀ atoms j).name) i names₀ s.names_stored (w.1.0 ∙ ap (λ (c : Class). set names i c.name) class_is);
-      codes_stored = filled_on (λ j. (class_at keys names₀ atoms j).code) i codes₀ s.codes_stored (w.1.1.0 ∙ ap (λ (c : Class). set codes i c.code) class_is);
+      names_stored = filled_on (λ j. (class_at keys names₀ atoms j).name) i names₀ s.names_stored (names_after ∙ ap (λ (c : Class). set names i c.name) class_is);
+      codes_stored = filled_on (λ j. (class_at keys names₀ atoms j).code) i codes₀ s.codes_stored (codes_after ∙ ap (λ (c : Class). set codes i c.code) class_is);
       categories_stored =
-          filled_on (λ j. (class_at keys names₀ atoms j).category) i marks₀ s.categories_stored (w.1.1.1 ∙ ap (λ (c : Class). set categories i c.category) class_is);
+          filled_on (λ j. (class_at keys names₀ atoms j).category) i marks₀ s.categories_stored (categories_after ∙ ap (λ (c : Class). set categories i c.category) class_is);
       passed = next_is ∙ ap (passed_at keys atoms) (sym (add-one i));
       left = first_later (unknown_at keys names₀ marks₀ atoms) i n h (sym unknown_is ∙ e) ∙ s.left;
     }

@@ -1,11 +1,10 @@
--- The slices as a function that is not lent the chains gives them back, in the order of its parameters, of which the last is passed by value.
-use Prim.{Unit}
+-- The slices as a function that is not lent the chains gives them back, in the order of its parameters.
 use mathlib.Core.List.{List}
 use Prim.Native.Nat.{ℕ}
 use lib.Ieee.{Float}
 use Rattle.model.specs.Lent.{Lent, lent_of}
 
--- with these chains beside them
-abbrev pub given_back : List ℕ × (List ℕ × (List ℕ × (List ℕ × (List ℕ × (List ℕ × (List ℕ × (List ℕ × (List (List Float) × (List Float × (Unit {0} × Unit {0})))))))))) → List ℕ → Lent
-given_back l chains =
-    lent_of chains l.0 l.1.0 l.1.1.0 l.1.1.1.0 l.1.1.1.1.0 l.1.1.1.1.1.0 l.1.1.1.1.1.1.0 l.1.1.1.1.1.1.1.0 l.1.1.1.1.1.1.1.1.0 l.1.1.1.1.1.1.1.1.1.0
+-- with these chains, the last argument, beside them
+abbrev pub given_back : List ℕ → List ℕ → List ℕ → List ℕ → List ℕ → List ℕ → List ℕ → List ℕ → List (List Float) → List Float → List ℕ → Lent
+given_back residue_keys residue_names residue_codes residue_categories residue_positions atom_keys atom_names elements positions occupancies chains =
+    lent_of chains residue_keys residue_names residue_codes residue_categories residue_positions atom_keys atom_names elements positions occupancies

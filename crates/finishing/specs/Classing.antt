@@ -36,6 +36,6 @@ pub record Classified (keys names codes marks atoms : List ℕ) (n r : ℕ) (nam
   pub categories_stored : r ≡ 0 → categories ≡ filled (λ i. (class_at keys names atoms i).category) n marks
 
 -- the same of lent slices: the marks stand where the categories will
-abbrev pub Classifies : Slice ℕ → Slice ℕ → Slice ℕ → Slice ℕ → List ℕ → ℕ → ℕ → Type 0
+abbrev pub Classifies : List ℕ → Slice ℕ → Slice ℕ → Slice ℕ → List ℕ → ℕ → ℕ → Type 0
 Classifies keys names codes categories atoms n r =
-    Classified keys.entry.now names.entry.now codes.entry.now categories.entry.now atoms n r names.exit.now codes.exit.now categories.exit.now
+    Classified keys names.entry.now codes.entry.now categories.entry.now atoms n r names.exit.now codes.exit.now categories.exit.now

@@ -49,7 +49,7 @@ pub(crate) fn classify_residues(
     residues: usize,
     atoms: usize,
 ) -> usize
-    ensures { Classifies keys names codes categories (take atoms atom_keys.now) residues result }
+    ensures { Classifies keys.now names codes categories (take atoms atom_keys.now) residues result }
 {
     let mut at = 0;
     let mut i = 0;

@@ -1,31 +1,16 @@
 -- One equation to a slice, from the function that clears it; the chains are cleared by another.
--- the slices at entry
 use mathlib.Core.Path.{refl}
-use mathlib.Core.List.{List}
-use Prim.Native.Nat.{ℕ}
-use Rattle.model.specs.Lent.{Lent}
+use Rattle.model.specs.Lent.{lent_of}
 use Rattle.finishing.proofs.ClearingLaws.{slices_cleared}
 use Rattle.finishing.proofs.clearing.clear_records.Goals as goal
 
-abbrev entry : goal.Start → List ℕ → Lent
-entry s names = record {
-  chains = names;
-  residue_keys = s.args.residue_keys.now;
-  residue_names = s.args.residue_names.now;
-  residue_codes = s.args.residue_codes.now;
-  residue_categories = s.args.residue_categories.now;
-  residue_positions = s.args.residue_positions.now;
-  atom_keys = s.args.atom_keys.now;
-  atom_names = s.args.atom_names.now;
-  elements = s.args.elements.now;
-  positions = s.args.positions.now;
-  occupancies = s.args.occupancies.now;
-}
-
 pub returns : goal.returns
 returns c =
+    let a = c.args in
     λ names.
-    slices_cleared (entry c names) c.args.kept
+    slices_cleared
+    (lent_of names a.residue_keys.now a.residue_names.now a.residue_codes.now a.residue_categories.now a.residue_positions.now a.atom_keys.now a.atom_names.now a.elements.now a.positions.now a.occupancies.now)
+    a.kept
     refl
     c.clear_u64_from.ensures
     c.clear_u64_from-2.ensures
