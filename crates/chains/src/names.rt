@@ -1,5 +1,4 @@
-// The names of a chain list, taken out of its records and stored into them. The borrow checker covers no function over a slice of
-// structs, so `take_names` and `store_names` are proved by hand; the reader and the writer work over the names.
+// The names of a chain list, taken out of its records and stored into them; the reader and the writer work over the names.
 ghost use Rattle.std.specs.Prelude.{◌≡◌, min, length, get_or, replicate};
 ghost use Rattle.chains.specs.Names.{names_in, taken_over, named};
 

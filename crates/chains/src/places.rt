@@ -1,5 +1,4 @@
-// The place of a chain's record, found or appended in the records themselves, and the records past the last chain. The borrow checker covers no
-// function over a slice of structs, so `place_in` and `clear_from` are proved by hand.
+// The place of a chain's record, found or appended in the records themselves, and the records past the last chain.
 ghost use Rattle.std.specs.Prelude.{◌≡◌, take, set};
 ghost use Rattle.building.specs.Slices.{ChainFound};
 ghost use Rattle.field_slices.specs.Clearing.{cleared};
