@@ -1,5 +1,5 @@
 -- A turn gives record i its name; past the last turn all records have theirs that there are.
-use Rattle.std.proofs.Common.{◌≡◌, ◌+◌, ◌<◌, ◌≤◌, length, ap, sym, ◌∙◌, arith, min}
+use Rattle.std.proofs.Common.{◌≡◌, ◌<◌, length, ap, sym, ◌∙◌, arith, min}
 use lib.ListN.{set, get_or}
 use Rattle.chains.specs.Names.{named, chain_of}
 use Rattle.chains.proofs.NameLaws.{named_none, named_turn, named_all}

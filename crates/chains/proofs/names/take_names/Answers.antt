@@ -1,7 +1,7 @@
 -- A turn reads the name of record i and puts it in the place of name i; past the last turn all are taken that there is room for.
-use Rattle.std.proofs.Common.{◌≡◌, ◌+◌, ◌<◌, ◌≤◌, length, ap, sym, ◌∙◌, arith, min}
+use Rattle.std.proofs.Common.{◌≡◌, ◌<◌, length, ap, sym, ◌∙◌, arith, min}
 use lib.ListN.{set, get_or}
-use Rattle.chains.specs.Names.{names_in, chain_of}
+use Rattle.chains.specs.Names.{chain_of}
 use Rattle.chains.proofs.NameLaws.{taking, taking_none, taking_turn, taking_all}
 use Rattle.chains.proofs.names.take_names.Goals as goal
 

@@ -1,5 +1,5 @@
 -- The search stands at its k-th record, and would end at another; where it ends is the name's place, or the count.
-use Rattle.std.proofs.Common.{◌≡◌, ◌+◌, ◌-◌, ◌*◌, ◌<◌, ◌≤◌, ℕ, List, length, take, min, sym, ◌∙◌, ap, subst, arith}
+use Rattle.std.proofs.Common.{◌≡◌, ◌+◌, ◌<◌, ◌≤◌, ℕ, List, length, take, min, sym, ◌∙◌, ap, subst, arith}
 use lib.ListN.{get_or}
 use Rattle.chains.specs.declared.chain.Chain.{Chain}
 use Rattle.chains.specs.Names.{chain_of, names_in}
@@ -24,7 +24,7 @@ turns chains many name last k end count i end' size s less e f =
     let names = take many (names_in chains) in
     let h = in_names chains many name last k end count i size s less e in
     let g : end' ≡ end_at (get_or names (round_at (length names) last k) 0) name k end =
-      f ∙ ap (λ n. end_at n name k end) (sym (name_first many chains i (omega (arith, h.1, length_first many chains)))) ∙ ap (λ n. end_at (get_or names n 0) name k end) h.0 in
+    f ∙ ap (λ n. end_at n name k end) (sym (name_first many chains i (omega (arith, h.1, length_first many chains)))) ∙ ap (λ n. end_at (get_or names n 0) name k end) h.0 in
     (subst (λ n. n ≤ end) (sym f) (fewer_left (get_or chains i (chain_of 0)).name name k end less), subst (Seeks names name last (k + 1)) (sym g) (seek_turn names name last k end less s))
 
 pub loop-k-init : goal.loop-k-init

@@ -1,5 +1,5 @@
 -- The three cases of `round_at`: on from the first place, from the start again, and past the last.
-use Rattle.std.proofs.Common.{◌≡◌, ◌-◌, ◌<◌, ◌≤◌, ℕ, min, sym, ◌∙◌, ap, arith}
+use Rattle.std.proofs.Common.{◌≡◌, ◌-◌, ℕ, min, sym, ◌∙◌, ap, arith}
 use Rattle.chains.proofs.PlaceLaws.{round_on, round_again, round_past}
 use Rattle.chains.proofs.places.round.Goals as goal
 
