@@ -1,5 +1,4 @@
 -- Each turn stores what one residue is and goes on to the next; it ends at the first unknown one, or behind all of them.
-use Prim.Native.Nat.{◌-◌}
 use native.Mathlib.Omega.{arith}
 use lib.ListN.{take}
 use Rattle.finishing.proofs.ClassingLaws.{classing_starts, classing_on, classing_stops, classing_ends}
