@@ -1,4 +1,4 @@
--- A turn of the loop that compares two texts is one clause of `eqIgnoreCase`, by what its test said.
+-- A turn of the loop that compares two texts is one clause of `eq_ignore_case`, by what its test said.
 use mathlib.Core.Path.{◌≡◌, refl, ap, ◌∙◌}
 use mathlib.Core.List.{List, [], ◌∷◌}
 use mathlib.Core.Bool.{Bool, true, false, ◌&&◌, and-false}

@@ -14,7 +14,7 @@ use Rattle.field_slices.specs.declared.places.Place.TheVariants.{Before}
 use Rattle.field_slices.specs.Insertion.{ins}
 use Rattle.field_slices.specs.Places.{pairs, below, Ascending, place_in}
 use Rattle.field_slices.proofs.PairLaws.{map_pairs}
-use Rattle.gapped_slices.specs.Areas.{many, Lies, one_more_at, stand_of, entriesIn, MovedIn, PutsIn}
+use Rattle.gapped_slices.specs.Areas.{many, Lies, one_more_at, stand_of, entries_in, MovedIn, PutsIn}
 use Rattle.gapped_slices.specs.Spots.{spot_of, Spotted}
 use Rattle.gapped_slices.specs.declared.areas.Area.{Area}
 use Rattle.gapped_slices.specs.declared.spots.Spot.{Spot}
@@ -87,10 +87,10 @@ atoms_still_long r after room same long = record {
 
 -- ---- a look among the keys and names of an area, for an atom that is not there
 pub atom_looked_new : (r : AtomSlices) (a : Area) (m : Map Atom) → Kept (AtomsIn r) a m → (key name : ℕ) → name < 2 ^ 64 → (v : Atom) → (spot : Spot)
-    → Spotted below (pairs (entriesIn a r.keys) (entriesIn a r.names)) (key, name) spot → find (atom_place key name) m ≡ none → Before spot.front ≡ place_in ltb (atom_place key name) (keys m)
+    → Spotted below (pairs (entries_in a r.keys) (entries_in a r.names)) (key, name) spot → find (atom_place key name) m ≡ none → Before spot.front ≡ place_in ltb (atom_place key name) (keys m)
 atom_looked_new r a m kept key name small v spot look absent =
     let place = atom_place key name in
-    let held : pairs (entriesIn a r.keys) (entriesIn a r.names) ≡ splits m
+    let held : pairs (entries_in a r.keys) (entries_in a r.names) ≡ splits m
     = (λ i. pairs (kept.fields.keys_held i) (kept.fields.names_held i)) ∙ map_pairs (λ (e : Entry Atom). key_part e.key) (λ (e : Entry Atom). name_part e.key) m in
     let both = parts key name small in
     let own : ◌≡◌ {A = ℕ × ℕ} (key, name) (split place) = λ i. (sym both.0 i, sym both.1 i) in
@@ -118,8 +118,8 @@ module _ (r after : AtomSlices) (at element : ℕ) (position : List Float) (occu
 
   pub atom_stays : (b : Area) → (at < b.from) ⊎ (b.to ≤ at) → (m : Map Atom) → AtomsIn r b m → AtomsIn after b m
   atom_stays b side m h = record {
-    keys_held = ap (entriesIn b) ks ∙ h.keys_held;
-    names_held = ap (entriesIn b) ns ∙ h.names_held;
+    keys_held = ap (entries_in b) ks ∙ h.keys_held;
+    names_held = ap (entries_in b) ns ∙ h.names_held;
     elements_held = field_elsewhere t b r.elements after.elements at element es side ∙ h.elements_held;
     positions_held = field_elsewhere t b r.positions after.positions at position ps side ∙ h.positions_held;
     occupancies_held = field_elsewhere t b r.occupancies after.occupancies at occupancy os side ∙ h.occupancies_held;
@@ -149,8 +149,8 @@ module _ (r after : AtomSlices) (at element : ℕ) (position : List Float) (occu
 
     fields : AtomsIn after a (cond t (set m i x) m)
     fields = record {
-      keys_held = ap (entriesIn a) ks ∙ h.keys_held ∙ sym (field_kept (λ (e : Entry Atom). key_part e.key) t m i x d (ap key_part (sym own)));
-      names_held = ap (entriesIn a) ns ∙ h.names_held ∙ sym (field_kept (λ (e : Entry Atom). name_part e.key) t m i x d (ap name_part (sym own)));
+      keys_held = ap (entries_in a) ks ∙ h.keys_held ∙ sym (field_kept (λ (e : Entry Atom). key_part e.key) t m i x d (ap key_part (sym own)));
+      names_held = ap (entries_in a) ns ∙ h.names_held ∙ sym (field_kept (λ (e : Entry Atom). name_part e.key) t m i x d (ap name_part (sym own)));
       elements_held = field_replaced (λ (e : Entry Atom). e.value.element) t a i x m r.elements after.elements at element (lies_in (length r.elements) long.elements) low stands e es h.elements_held;
       positions_held = field_replaced (λ (e : Entry Atom). coordinates e.value.position) t a i x m r.positions after.positions at position (lies_in (length r.positions) long.positions) low stands p ps h.positions_held;
       occupancies_held = field_replaced (λ (e : Entry Atom). e.value.occupancy) t a i x m r.occupancies after.occupancies at occupancy (lies_in (length r.occupancies) long.occupancies) low stands o os h.occupancies_held;

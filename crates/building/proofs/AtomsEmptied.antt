@@ -9,7 +9,7 @@ use Rattle.field_slices.specs.declared.places.Place.TheVariants.{Before}
 use Rattle.field_slices.specs.Clearing.{zero_float, zero_point}
 use Rattle.field_slices.specs.Insertion.{ins}
 use Rattle.field_slices.specs.Places.{pairs, below, place_in}
-use Rattle.gapped_slices.specs.Areas.{many, Lies, one_more_at, stand_of, entriesIn, PutsIn}
+use Rattle.gapped_slices.specs.Areas.{many, Lies, one_more_at, stand_of, entries_in, PutsIn}
 use Rattle.gapped_slices.specs.Spots.{Spotted}
 use Rattle.gapped_slices.specs.declared.areas.Area.{Area}
 use Rattle.gapped_slices.specs.declared.spots.Spot.{Spot}
@@ -41,7 +41,7 @@ module _ (first r after : AtomSlices) (room : ℕ) (small : room < 2 ^ 64) (long
   e = get_or q k none_such
 
   -- ---- what is taken out
-  out : {A : Type 0} (field : Entry Atom → A) (l : List A) → room ≤ length l → entriesIn s.pocket l ≡ map field q → get_or l (stand_of s.pocket k) (field none_such) ≡ field e
+  out : {A : Type 0} (field : Entry Atom → A) (l : List A) → room ≤ length l → entries_in s.pocket l ≡ map field q → get_or l (stand_of s.pocket k) (field none_such) ≡ field e
   out = taken (AtomsIn first) (AtomsIn r) (AtomsIn after) room s m h k low none_such a g
 
   module _ (at key name element : ℕ) (position : List Float) (occupancy : Float) (stands : at ≡ stand_of s.pocket k) (key_is : key ≡ get_or r.keys at 0) (name-is : name ≡ get_or r.names at 0)
@@ -74,7 +74,7 @@ module _ (first r after : AtomSlices) (room : ℕ) (small : room < 2 ^ 64) (long
     small_name = subst (λ (n : ℕ). n < 2 ^ 64) (sym own_name) (name_small e.key)
 
     -- ---- and put in
-    module _ (spot : Spot) (look : Lies a (length r.keys) → Lies a (length r.names) → Spotted below (pairs (entriesIn a r.keys) (entriesIn a r.names)) (key, name) spot)
+    module _ (spot : Spot) (look : Lies a (length r.keys) → Lies a (length r.names) → Spotted below (pairs (entries_in a r.keys) (entries_in a r.names)) (key, name) spot)
         (a' : Area) (grown : suc (many a) < 2 ^ 64 → spot.front ≤ many a → a' ≡ one_more_at a spot.front)
         (ks : PutsIn a spot.front key r.keys after.keys) (ns : PutsIn a spot.front name r.names after.names) (es : PutsIn a spot.front element r.elements after.elements)
         (ps : PutsIn a spot.front position r.positions after.positions) (os : PutsIn a spot.front occupancy r.occupancies after.occupancies) where

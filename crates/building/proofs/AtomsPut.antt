@@ -8,7 +8,7 @@ use lib.Ieee.{Float}
 use lib.ListN.{length}
 use Rattle.field_slices.specs.declared.places.Place.TheVariants.{Before}
 use Rattle.field_slices.specs.Places.{pairs, below, place_in}
-use Rattle.gapped_slices.specs.Areas.{many, Lies, entriesIn, PutsIn}
+use Rattle.gapped_slices.specs.Areas.{many, Lies, entries_in, PutsIn}
 use Rattle.gapped_slices.specs.Spots.{Spotted}
 use Rattle.gapped_slices.specs.declared.areas.Area.{Area}
 use Rattle.gapped_slices.specs.declared.spots.Spot.{Spot}
@@ -26,7 +26,7 @@ use Rattle.building.proofs.StoreLaws.{lies_main, lies_pocket, goes_main, goes_po
 
 -- a look among the keys and names of an area
 abbrev Looked : AtomSlices → Area → ℕ → ℕ → Spot → Type 0
-Looked r a key name spot = Lies a (length r.keys) → Lies a (length r.names) → Spotted below (pairs (entriesIn a r.keys) (entriesIn a r.names)) (key, name) spot
+Looked r a key name spot = Lies a (length r.keys) → Lies a (length r.names) → Spotted below (pairs (entries_in a r.keys) (entries_in a r.names)) (key, name) spot
 
 module _ (r after : AtomSlices) (room : ℕ) (small : room < 2 ^ 64) (long : AtomsLong r room) (s to : Store) (key name element : ℕ) (position : List Float) (occupancy : Float) (name_small : name < 2 ^ 64)
     (v : Atom) (e : element ≡ v.element) (p : position ≡ coordinates v.position) (o : occupancy ≡ v.occupancy)

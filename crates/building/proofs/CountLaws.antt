@@ -44,8 +44,8 @@ module _ (n : ℕ) where
 
 -- ---- what lacks room
 module _ (room : Room) (c : Counts) (p : Places) where
-  abbrev pub noChain : Bool
-  noChain = no_room (is_new_chain c p) room.chains c.chains
+  abbrev pub no_chain : Bool
+  no_chain = no_room (is_new_chain c p) room.chains c.chains
 
   abbrev pub no_residue : Bool
   no_residue = no_room p.residue.new room.residues c.residues
@@ -53,22 +53,22 @@ module _ (room : Room) (c : Counts) (p : Places) where
   abbrev pub no_atom : Bool
   no_atom = no_room p.atom.new room.atoms c.atoms
 
-  pub lacks_chain : noChain ≡ true → lack_of room c p ≡ Of kind.Chain
+  pub lacks_chain : no_chain ≡ true → lack_of room c p ≡ Of kind.Chain
   unfolding lack_of
   lacks_chain e = ap (λ (t : Bool). first_lack t no_residue no_atom) e
 
-  pub lacks_residue : noChain ≡ false → no_residue ≡ true → lack_of room c p ≡ Of kind.Residue
+  pub lacks_residue : no_chain ≡ false → no_residue ≡ true → lack_of room c p ≡ Of kind.Residue
   unfolding lack_of
   lacks_residue e f = λ i. first_lack (e i) (f i) no_atom
 
-  pub lacks_atom : noChain ≡ false → no_residue ≡ false → no_atom ≡ true → lack_of room c p ≡ Of kind.Atom
+  pub lacks_atom : no_chain ≡ false → no_residue ≡ false → no_atom ≡ true → lack_of room c p ≡ Of kind.Atom
   unfolding lack_of
   lacks_atom e f g = λ i. first_lack (e i) (f i) (g i)
 
-  pub lacks_none : noChain ≡ false → no_residue ≡ false → no_atom ≡ false → lack_of room c p ≡ Nothing
+  pub lacks_none : no_chain ≡ false → no_residue ≡ false → no_atom ≡ false → lack_of room c p ≡ Nothing
   unfolding lack_of
   lacks_none e f g = λ i. first_lack (e i) (f i) (g i)
 
-  pub all_have_room : lack_of room c p ≡ Nothing → (noChain ≡ false) × (no_residue ≡ false) × (no_atom ≡ false)
+  pub all_have_room : lack_of room c p ≡ Nothing → (no_chain ≡ false) × (no_residue ≡ false) × (no_atom ≡ false)
   unfolding lack_of
-  all_have_room = nothing_lacks noChain no_residue no_atom
+  all_have_room = nothing_lacks no_chain no_residue no_atom

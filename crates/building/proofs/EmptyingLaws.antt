@@ -13,7 +13,7 @@ use lib.Seq.{drop-cons}
 use Rattle.field_slices.specs.declared.places.Place.TheVariants.{Before}
 use Rattle.field_slices.specs.Insertion.{ins}
 use Rattle.field_slices.specs.Places.{place_in}
-use Rattle.gapped_slices.specs.Areas.{many, Lies, one_more_at, stand_of, entriesIn}
+use Rattle.gapped_slices.specs.Areas.{many, Lies, one_more_at, stand_of, entries_in}
 use Rattle.gapped_slices.specs.declared.areas.Area.{Area}
 use Rattle.model.specs.Map.{Entry, Map, find, put, AscendingFrom, Ascending}
 use Rattle.building.specs.declared.stores.Store.{Store}
@@ -95,7 +95,7 @@ module _ {W : Type 0} where
     abbrev e : Entry W
     e = get_or h.second k d
 
-    pub taken : {A : Type 0} (field : Entry W → A) (l : List A) → room ≤ length l → entriesIn s.pocket l ≡ map field h.second → get_or l (stand_of s.pocket k) (field d) ≡ field e
+    pub taken : {A : Type 0} (field : Entry W → A) (l : List A) → room ≤ length l → entries_in s.pocket l ≡ map field h.second → get_or l (stand_of s.pocket k) (field d) ≡ field e
     taken field l wide held = field_at field s.pocket k h.second d l (field d) (lies_pocket room s h.lays (length l) wide) low held
 
     pub not_in_main : find e.key g.so_far ≡ none

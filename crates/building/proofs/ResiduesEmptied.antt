@@ -9,7 +9,7 @@ use lib.ListN.{length, get_or}
 use Rattle.field_slices.specs.declared.places.Place.TheVariants.{Before}
 use Rattle.field_slices.specs.Insertion.{ins}
 use Rattle.field_slices.specs.Places.{place_in}
-use Rattle.gapped_slices.specs.Areas.{many, Lies, one_more_at, stand_of, entriesIn, PutsIn}
+use Rattle.gapped_slices.specs.Areas.{many, Lies, one_more_at, stand_of, entries_in, PutsIn}
 use Rattle.gapped_slices.specs.Spots.{Spotted}
 use Rattle.gapped_slices.specs.declared.areas.Area.{Area}
 use Rattle.gapped_slices.specs.declared.spots.Spot.{Spot}
@@ -44,7 +44,7 @@ module _ (first r after : ResidueSlices) (room : ℕ) (small : room < 2 ^ 64) (l
   e = get_or q k none_such
 
   -- ---- what is taken out
-  out : {A : Type 0} (field : Entry Residue → A) (l : List A) → room ≤ length l → entriesIn s.pocket l ≡ map field q → get_or l (stand_of s.pocket k) (field none_such) ≡ field e
+  out : {A : Type 0} (field : Entry Residue → A) (l : List A) → room ≤ length l → entries_in s.pocket l ≡ map field q → get_or l (stand_of s.pocket k) (field none_such) ≡ field e
   out = taken (ResiduesIn first) (ResiduesIn r) (ResiduesIn after) room s m h k low none_such a g
 
   module _ (at key name mark : ℕ) (stands : at ≡ stand_of s.pocket k) (key_is : key ≡ get_or r.keys at 0) (name-is : name ≡ get_or r.names at 0) (mark-is : mark ≡ get_or r.marks at 0) where
@@ -58,12 +58,12 @@ module _ (first r after : ResidueSlices) (room : ℕ) (small : room < 2 ^ 64) (l
     own_mark = mark-is ∙ ap (λ (i : ℕ). get_or r.marks i 0) stands ∙ out (λ (x : Entry Residue). count x.value.hetatm) r.marks long.marks g.pocket.marks_held
 
     -- ---- and put in
-    module _ (spot : Spot) (look : Lies a (length r.keys) → Spotted ltb (entriesIn a r.keys) key spot) (a' : Area) (grown : suc (many a) < 2 ^ 64 → spot.front ≤ many a → a' ≡ one_more_at a spot.front)
+    module _ (spot : Spot) (look : Lies a (length r.keys) → Spotted ltb (entries_in a r.keys) key spot) (a' : Area) (grown : suc (many a) < 2 ^ 64 → spot.front ≤ many a → a' ≡ one_more_at a spot.front)
         (ks : PutsIn a spot.front key r.keys after.keys) (ns : PutsIn a spot.front name r.names after.names) (ms : PutsIn a spot.front mark r.marks after.marks) where
       place : Before spot.front ≡ place_in ltb e.key (keys g.so_far)
       place =
           let lies = lies_so_far (ResiduesIn first) (ResiduesIn r) (ResiduesIn after) room s m h k low none_such a g (length r.keys) long.keys in
-          looked_new e.key e.value g.so_far (entriesIn a r.keys) spot g.main.fields.keys_held g.main.ascending (subst (λ (x : ℕ). Spotted ltb (entriesIn a r.keys) x spot) own_key (look lies))
+          looked_new e.key e.value g.so_far (entries_in a r.keys) spot g.main.fields.keys_held g.main.ascending (subst (λ (x : ℕ). Spotted ltb (entries_in a r.keys) x spot) own_key (look lies))
           (not_in_main (ResiduesIn first) (ResiduesIn r) (ResiduesIn after) room s m h k low none_such a g)
 
       enters : Enters (ResiduesIn r) (ResiduesIn after) room a spot.front e g.so_far

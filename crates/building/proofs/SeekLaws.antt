@@ -11,7 +11,7 @@ use Rattle.field_slices.specs.Places.{pairs, place_in}
 use Rattle.field_slices.proofs.OrderLaws.{Order}
 use Rattle.field_slices.proofs.PairLaws.{length_pairs}
 use Rattle.field_slices.proofs.PlaceLaws.{Says, place_says}
-use Rattle.gapped_slices.specs.Areas.{many, Lies, stand_of, entriesIn}
+use Rattle.gapped_slices.specs.Areas.{many, Lies, stand_of, entries_in}
 use Rattle.gapped_slices.specs.declared.areas.Area.{Area}
 use Rattle.gapped_slices.proofs.AreaLaws.{length_entries}
 use Rattle.gapped_slices.specs.Spots.{spot_of, Spotted}
@@ -21,12 +21,12 @@ use Rattle.building.specs.Stores.{sought_by, Seeks}
 use Rattle.building.proofs.AreaFields.{none_in}
 
 -- two fields of the entries of an area, side by side
-pub length_both : (a : Area) (keys names : List ℕ) → Lies a (length keys) → Lies a (length names) → length (pairs (entriesIn a keys) (entriesIn a names)) ≡ many a
-length_both a keys names l k = length_pairs (entriesIn a keys) (entriesIn a names) ∙ omega (arith, length_entries a keys l, length_entries a names k)
+pub length_both : (a : Area) (keys names : List ℕ) → Lies a (length keys) → Lies a (length names) → length (pairs (entries_in a keys) (entries_in a names)) ≡ many a
+length_both a keys names l k = length_pairs (entries_in a keys) (entries_in a names) ∙ omega (arith, length_entries a keys l, length_entries a names k)
 
-pub none_of_both : (a : Area) (keys names : List ℕ) → many a ≡ 0 → pairs (entriesIn a keys) (entriesIn a names) ≡ []
+pub none_of_both : (a : Area) (keys names : List ℕ) → many a ≡ 0 → pairs (entries_in a keys) (entries_in a names) ≡ []
 unfolding pairs
-none_of_both a keys names none = ap (λ (l : List ℕ). pairs l (entriesIn a names)) (none_in a keys none)
+none_of_both a keys names none = ap (λ (l : List ℕ). pairs l (entries_in a names)) (none_in a keys none)
 
 -- the index of a spot that was there, and of one that is new
 there_at : (p : Place) (s : Spot) → s ≡ spot_of p → s.new ≡ false → p ≡ At (s.front - 1)

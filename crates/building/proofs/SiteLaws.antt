@@ -11,7 +11,7 @@ use lib.ListN.{length, take, set, length-set}
 use Rattle.rows.specs.declared.rules.Site.{Site}
 use Rattle.field_slices.specs.Places.{pairs, below, Ascending, place_in}
 use Rattle.field_slices.proofs.PairLaws.{map_pairs}
-use Rattle.gapped_slices.specs.Areas.{Lies, entriesIn}
+use Rattle.gapped_slices.specs.Areas.{Lies, entries_in}
 use Rattle.gapped_slices.specs.declared.areas.Area.{Area}
 use Rattle.model.specs.Chains.{chain_place, with_chain}
 use Rattle.model.specs.Finished.{key_part, name_part}
@@ -183,10 +183,10 @@ module _ (r : Records) (room : Room) (h : Held) (s : Site) (p : Places) (place :
   split_is : ◌≡◌ {A = ℕ × ℕ} (p.key, s.atom) (split k)
   split_is = let q = parts p.key s.atom w.atom in λ i. (sym q.0 i, sym q.1 i)
 
-  both_held : (b : Area) (m : Map Atom) → AtomsIn (atoms_in r) b m → pairs (entriesIn b r.atom_keys) (entriesIn b r.atom_names) ≡ splits m
+  both_held : (b : Area) (m : Map Atom) → AtomsIn (atoms_in r) b m → pairs (entries_in b r.atom_keys) (entries_in b r.atom_names) ≡ splits m
   both_held b m i = (λ j. pairs (i.keys_held j) (i.names_held j)) ∙ map_pairs (λ (e : Entry Atom). key_part e.key) (λ (e : Entry Atom). name_part e.key) m
 
-  place_of_atom : (b : Area) (m : Map Atom) → AtomsIn (atoms_in r) b m → place_in below (p.key, s.atom) (pairs (entriesIn b r.atom_keys) (entriesIn b r.atom_names)) ≡ place_in ltb k (keys_of m)
+  place_of_atom : (b : Area) (m : Map Atom) → AtomsIn (atoms_in r) b m → place_in below (p.key, s.atom) (pairs (entries_in b r.atom_keys) (entries_in b r.atom_names)) ≡ place_in ltb k (keys_of m)
   place_of_atom b m i = ap (place_in below (p.key, s.atom)) (both_held b m i) ∙ ap (λ (q : ℕ × ℕ). place_in below q (splits m)) split_is ∙ place_split k m
 
   atom_sought : p.atom ≡ sought_by h.atoms (place_in ltb k (keys_of a.atoms.first)) (place_in ltb k (keys_of a.atoms.second))
@@ -194,7 +194,7 @@ module _ (r : Records) (room : Room) (h : Held) (s : Site) (p : Places) (place :
       let l = a.atoms.lays in
       let lies : (n : ℕ) → room.atoms ≤ n → Lies h.atoms.main n = λ n long. lies_main room.atoms h.atoms l n long in
       let under : (n : ℕ) → room.atoms ≤ n → Lies h.atoms.pocket n = λ n long. lies_pocket room.atoms h.atoms l n long in
-      let ascends : (b : Area) (m : Map Atom) → AtomsIn (atoms_in r) b m → Ascending ltb (keys_of m) → Ascending below (pairs (entriesIn b r.atom_keys) (entriesIn b r.atom_names))
+      let ascends : (b : Area) (m : Map Atom) → AtomsIn (atoms_in r) b m → Ascending ltb (keys_of m) → Ascending below (pairs (entries_in b r.atom_keys) (entries_in b r.atom_names))
       = λ b m i up. subst (Ascending below) (sym (both_held b m i)) (ascending_split m up) in
       let main = a.atoms.main in
       let pocket = a.atoms.pocket in

@@ -2,7 +2,7 @@
 use Rattle.std.specs.Prelude.{◌≡◌, List, map, ℕ, ◌≤◌, Float, length}
 use denote.Triple.Both.{Both}
 use Rattle.field_slices.specs.Slice.{Slice}
-use Rattle.gapped_slices.specs.Areas.{entriesIn}
+use Rattle.gapped_slices.specs.Areas.{entries_in}
 use Rattle.gapped_slices.specs.declared.areas.Area.{Area}
 use Rattle.model.specs.Finished.{key_part, name_part}
 use Rattle.model.specs.Fold.{Residue, Atom}
@@ -29,9 +29,9 @@ residues_by keys names marks = record {
 }
 
 pub record ResiduesIn (r : ResidueSlices) (a : Area) (m : Map Residue) : Type 0 where
-  pub keys_held : entriesIn a r.keys ≡ map (λ e. e.key) m
-  pub names_held : entriesIn a r.names ≡ map (λ e. e.value.name) m
-  pub marks_held : entriesIn a r.marks ≡ map (λ e. count e.value.hetatm) m
+  pub keys_held : entries_in a r.keys ≡ map (λ e. e.key) m
+  pub names_held : entries_in a r.names ≡ map (λ e. e.value.name) m
+  pub marks_held : entries_in a r.marks ≡ map (λ e. count e.value.hetatm) m
 
 -- those in the front of the slices
 abbrev pub ResiduesFirst : ResidueSlices → Map Residue → Type 0
@@ -66,11 +66,11 @@ atoms_by keys names elements positions occupancies = record {
 }
 
 pub record AtomsIn (r : AtomSlices) (a : Area) (m : Map Atom) : Type 0 where
-  pub keys_held : entriesIn a r.keys ≡ map (λ e. key_part e.key) m
-  pub names_held : entriesIn a r.names ≡ map (λ e. name_part e.key) m
-  pub elements_held : entriesIn a r.elements ≡ map (λ e. e.value.element) m
-  pub positions_held : entriesIn a r.positions ≡ map (λ e. coordinates e.value.position) m
-  pub occupancies_held : entriesIn a r.occupancies ≡ map (λ e. e.value.occupancy) m
+  pub keys_held : entries_in a r.keys ≡ map (λ e. key_part e.key) m
+  pub names_held : entries_in a r.names ≡ map (λ e. name_part e.key) m
+  pub elements_held : entries_in a r.elements ≡ map (λ e. e.value.element) m
+  pub positions_held : entries_in a r.positions ≡ map (λ e. coordinates e.value.position) m
+  pub occupancies_held : entries_in a r.occupancies ≡ map (λ e. e.value.occupancy) m
 
 abbrev pub AtomsFirst : AtomSlices → Map Atom → Type 0
 AtomsFirst r m = HoldsAtoms r.keys r.names r.elements r.positions r.occupancies (length m) m

@@ -2,7 +2,7 @@
 use Rattle.std.specs.Prelude.{◌≡◌, Bool, true, not, ◌&&◌, cond, List, ℕ, suc, ◌^◌, ◌≤◌, ◌<◌, leb, ltb, length, set}
 use denote.Triple.Both.{Both}
 use Rattle.rows.specs.declared.rules.Site.{Site}
-use Rattle.gapped_slices.specs.Areas.{Lies, entriesIn}
+use Rattle.gapped_slices.specs.Areas.{Lies, entries_in}
 use Rattle.field_slices.specs.Places.{pairs, below}
 use Rattle.model.specs.Fold.{State, step}
 use Rattle.model.specs.Keys.{residue_key}
@@ -32,10 +32,10 @@ pub record SoughtFor (residue_keys atom_keys atom_names : List ℕ) (h : Held) (
   pub chain : p.chain ≡ place
   pub key : p.chain ≤ 4096 → p.key ≡ residue_key p.chain s.sequence s.insertion_code
   pub residue : (let main = h.residues.main in let pocket = h.residues.pocket in Lies main (length residue_keys) → Lies pocket (length residue_keys)
-      → Seeks ltb (entriesIn main residue_keys) (entriesIn pocket residue_keys) p.key h.residues p.residue)
+      → Seeks ltb (entries_in main residue_keys) (entries_in pocket residue_keys) p.key h.residues p.residue)
   pub atom : (let main = h.atoms.main in let pocket = h.atoms.pocket in
       Lies main (length atom_keys) → Lies main (length atom_names) → Lies pocket (length atom_keys) → Lies pocket (length atom_names)
-      → Seeks below (pairs (entriesIn main atom_keys) (entriesIn main atom_names)) (pairs (entriesIn pocket atom_keys) (entriesIn pocket atom_names)) (p.key, s.atom) h.atoms p.atom)
+      → Seeks below (pairs (entries_in main atom_keys) (entries_in main atom_names)) (pairs (entries_in pocket atom_keys) (entries_in pocket atom_names)) (p.key, s.atom) h.atoms p.atom)
 
 -- what has no room
 unfoldable pub lack_of : Room → Counts → Places → Lack

@@ -2,7 +2,7 @@
 // is nearly always empty.
 ghost use Rattle.std.specs.Prelude.{◌≡◌, ltb, length};
 ghost use Rattle.field_slices.specs.Places.{pairs, below};
-ghost use Rattle.gapped_slices.specs.Areas.{Lies, entriesIn};
+ghost use Rattle.gapped_slices.specs.Areas.{Lies, entries_in};
 ghost use Rattle.building.specs.Stores.{Seeks};
 
 use crate::held::rest;
@@ -18,7 +18,7 @@ pub struct Sought {
 
 pub(crate) fn seek_residue(keys: &[u64], store: Store, key: u64) -> Sought
     ensures { let k = keys.now in Lies store.main (length k) → Lies store.pocket (length k)
-        → Seeks ltb (entriesIn store.main k) (entriesIn store.pocket k) key store result }
+        → Seeks ltb (entries_in store.main k) (entries_in store.pocket k) key store result }
 {
     let main = store.main;
     let pocket = store.pocket;
@@ -51,7 +51,7 @@ pub(crate) fn seek_residue(keys: &[u64], store: Store, key: u64) -> Sought
 pub(crate) fn seek_atom(keys: &[u64], names: &[u64], store: Store, key: u64, name: u64) -> Sought
     ensures { let k = keys.now in let n = names.now in
         Lies store.main (length k) → Lies store.main (length n) → Lies store.pocket (length k) → Lies store.pocket (length n)
-        → Seeks below (pairs (entriesIn store.main k) (entriesIn store.main n)) (pairs (entriesIn store.pocket k) (entriesIn store.pocket n)) (key, name) store result }
+        → Seeks below (pairs (entries_in store.main k) (entries_in store.main n)) (pairs (entries_in store.pocket k) (entries_in store.pocket n)) (key, name) store result }
 {
     let main = store.main;
     let pocket = store.pocket;

@@ -147,16 +147,16 @@ module _ (l : Lent) (c : Counts) (r : ℕ) (names codes categories : List ℕ)
     (k : Classified l.residue_keys l.residue_names l.residue_codes l.residue_categories (atom_keys_in l c) c.residues r names codes categories)
     (positions : List ℕ) (p : positions ≡ filled (position_at l.residue_keys codes c.residues) c.residues l.residue_positions)
     (st : State) (h : Holds (records_in l) (room_of l) c st) (peopled : Peopled st) where
-  abbrev isUnknownAt : ℕ → Bool
-  isUnknownAt i = unknown_at l.residue_keys l.residue_names l.residue_categories (atom_keys_in l c) i
+  abbrev is_unknown_at : ℕ → Bool
+  is_unknown_at i = unknown_at l.residue_keys l.residue_names l.residue_categories (atom_keys_in l c) i
 
-  answer_is : r ≡ first_place isUnknownAt 0 (length st.residues)
-  answer_is = k.answer ∙ ap (first_place isUnknownAt 0) h.residues.many
+  answer_is : r ≡ first_place is_unknown_at 0 (length st.residues)
+  answer_is = k.answer ∙ ap (first_place is_unknown_at 0) h.residues.many
 
   known_left : r ≡ 0 → (finished_of st ≡ known (model_from st)) × (cleared_from (walked l names codes categories positions) (kept_by 0 c) ≡ holding l (model_from st))
   unfolding finished_of
   known_left z =
-      let q = none_unknown isUnknownAt st.residues (unknown_at_lem l c st h peopled) (sym answer_is ∙ z) in
+      let q = none_unknown is_unknown_at st.residues (unknown_at_lem l c st h peopled) (sym answer_is ∙ z) in
       let places = p ∙ ap (λ (s : List ℕ). filled (position_at l.residue_keys s c.residues) c.residues l.residue_positions) (k.codes_stored z) in (
         ap (λ (o : Option ℕ). unless o (model_from st)) q,
         (λ i. cleared_from (walked l (k.names_stored z i) (k.codes_stored z i) (k.categories_stored z i) (places i)) (kept_by 0 c))
@@ -168,7 +168,7 @@ module _ (l : Lent) (c : Counts) (r : ℕ) (names codes categories : List ℕ)
   unknown_found z =
       let a = answer_is in
       ap (λ (o : Option ℕ). unless o (model_from st))
-      (some_unknown isUnknownAt st.residues (unknown_at_lem l c st h peopled) (omega arith) ∙ ap (λ (n : ℕ). some n) (sym a))
+      (some_unknown is_unknown_at st.residues (unknown_at_lem l c st h peopled) (omega arith) ∙ ap (λ (n : ℕ). some n) (sym a))
 
 -- ---- by the place of the first unknown one
 pub all_kept : (place : ℕ) (c : Counts) → place ≡ 0 → sizes_of c ≡ kept_by place c

@@ -65,7 +65,7 @@ abbrev pub no_residue : ResidueRecord
 no_residue = record { key = 0; name = 0; code = 0; category = 0; position = 0 }
 
 module _ (keys codes : List ℕ) (n : ℕ) (residues : List ResidueRecord) (many : n ≡ length residues) (keys_held : take n keys ≡ map (λ r. r.key) residues)
-    (codesHeld : take n codes ≡ map (λ r. r.code) residues) (ascending : ascends (map (λ r. r.key) residues) ≡ true) where
+    (codes_held : take n codes ≡ map (λ r. r.code) residues) (ascending : ascends (map (λ r. r.key) residues) ≡ true) where
   abbrev at : ℕ → ResidueRecord
   at i = get_or residues i no_residue
 
@@ -73,7 +73,7 @@ module _ (keys codes : List ℕ) (n : ℕ) (residues : List ResidueRecord) (many
   key_at = field_at (λ r. r.key) no_residue keys n residues keys_held
 
   code_at : (i : ℕ) → i < n → get_or codes i 0 ≡ (at i).code
-  code_at = field_at (λ r. r.code) no_residue codes n residues codesHeld
+  code_at = field_at (λ r. r.code) no_residue codes n residues codes_held
 
   met_is : (i : ℕ) → i ≤ n → met_before keys codes i ≡ met_in 0 (take i residues)
   unfolding met_before met_in
@@ -85,7 +85,7 @@ module _ (keys codes : List ℕ) (n : ℕ) (residues : List ResidueRecord) (many
   after_is : (i : ℕ) → drop i (take n (pairs keys codes)) ≡ map (λ r. (r.key, r.code)) (drop i residues)
   after_is i =
       ap (drop i)
-      (take_pairs n keys codes ∙ (λ j. pairs (keys_held j) (codesHeld j)) ∙ map_pairs (λ (r : ResidueRecord). r.key) (λ (r : ResidueRecord). r.code) residues)
+      (take_pairs n keys codes ∙ (λ j. pairs (keys_held j) (codes_held j)) ∙ map_pairs (λ (r : ResidueRecord). r.key) (λ (r : ResidueRecord). r.code) residues)
       ∙ sym (map_drop (λ (r : ResidueRecord). (r.key, r.code)) i residues)
 
   pub position_is : (i : ℕ) → i < n → position_at keys codes n i ≡ ruled_position residues (at i)

@@ -14,7 +14,7 @@ use lib.Seq.{length-take-le, take-nil, take-take, drop-drop, take_at, drop_at, t
 use borrow.Rule.Slice.PartMut.{put_mid, same_len_mid, take_put, drop_put}
 use borrow.Author.Tests.{lt-ltb, le-ltb}
 use Rattle.gapped_slices.specs.declared.areas.Area.{Area}
-use Rattle.gapped_slices.specs.Areas.{many, Lies, gap_of, stand_of, part, entriesIn, Elsewhere, MovedIn, PutsIn}
+use Rattle.gapped_slices.specs.Areas.{many, Lies, gap_of, stand_of, part, entries_in, Elsewhere, MovedIn, PutsIn}
 use Rattle.gapped_slices.specs.Gaps.{closed, GapMoved, PutIn}
 use Rattle.gapped_slices.proofs.GapLaws.{length_closed, closed_at, closed_set, closed_at_behind, closed_set_behind}
 
@@ -70,8 +70,8 @@ module _ {A : Type 0} where
     sized : gap_of a + many a ≡ length (part a l)
     sized = omega (arith, length_part a l h, h.fits)
 
-    pub length_entries : length (entriesIn a l) ≡ many a
-    unfolding entriesIn
+    pub length_entries : length (entries_in a l) ≡ many a
+    unfolding entries_in
     length_entries = length_closed a.front a.behind (part a l) has_entries
 
     -- the i-th entry stands at this index of the part
@@ -104,19 +104,19 @@ module _ {A : Type 0} where
       seat : Seat i
       seat = seated (dec_lt i a.front)
 
-      pub entry_at : (d : A) → get_or l (stand_of a i) d ≡ get_or (entriesIn a l) i d
-      unfolding entriesIn
+      pub entry_at : (d : A) → get_or l (stand_of a i) d ≡ get_or (entries_in a l) i d
+      unfolding entries_in
       entry_at d = ap (λ (n : ℕ). get_or l n d) seat.stands ∙ sym (part_at a l seat.index d seat.within) ∙ sym (seat.held d)
 
-      pub entry_set : (v : A) → entriesIn a (set l (stand_of a i) v) ≡ set (entriesIn a l) i v
-      unfolding entriesIn
+      pub entry_set : (v : A) → entries_in a (set l (stand_of a i) v) ≡ set (entries_in a l) i v
+      unfolding entries_in
       entry_set v =
           ap (closed a.front a.behind) (ap (λ (n : ℕ). part a (set l n v)) seat.stands ∙ part_set a l seat.index v seat.within)
           ∙ seat.changed v
 
   -- ---- what another area keeps
-  pub entries_elsewhere : (a b : Area) (l after : List A) → Elsewhere a l after → (b.to ≤ a.from) ⊎ (a.to ≤ b.from) → b.from ≤ b.to → entriesIn b after ≡ entriesIn b l
-  unfolding entriesIn
+  pub entries_elsewhere : (a b : Area) (l after : List A) → Elsewhere a l after → (b.to ≤ a.from) ⊎ (a.to ≤ b.from) → b.from ≤ b.to → entries_in b after ≡ entries_in b l
+  unfolding entries_in
   entries_elsewhere a b l after e (inl h) o =
       ap (closed b.front b.behind) (sym (part_of_first b a.from after o h) ∙ ap (part b) e.before ∙ part_of_first b a.from l o h)
   entries_elsewhere a b l after e (inr h) o =
@@ -131,8 +131,8 @@ module _ {A : Type 0} where
       ap (take (b.to - b.from)) (ap (λ (n : ℕ). drop b.from (set l n v)) (sym e) ∙ drop-set-add b.from l (j - b.from) v)
       ∙ take-set-le (b.to - b.from) (drop b.from l) (j - b.from) v (omega arith)
 
-  pub set_elsewhere : (b : Area) (l : List A) (j : ℕ) (v : A) → (j < b.from) ⊎ (b.to ≤ j) → entriesIn b (set l j v) ≡ entriesIn b l
-  unfolding entriesIn
+  pub set_elsewhere : (b : Area) (l : List A) (j : ℕ) (v : A) → (j < b.from) ⊎ (b.to ≤ j) → entries_in b (set l j v) ≡ entries_in b l
+  unfolding entries_in
   set_elsewhere b l j v h = ap (closed b.front b.behind) (part_elsewhere b l j v h (dec_lt j b.from))
 
   -- ---- a part that comes back
@@ -162,7 +162,7 @@ module _ {A : Type 0} where
   -- the gap is moved in the part, or the area is none
   module _ (a : Area) (n : ℕ) (l : List A) where
     pub moved_in : (q : List A) → Lies a (length l) → GapMoved a.front a.behind n (part a l) q → MovedIn a n l (with a l q)
-    unfolding entriesIn
+    unfolding entries_in
     moved_in q h m = record {
       elsewhere = elsewhere_back a l q h m.long;
       entries = λ w t. ap (closed n (many a - n)) (part_back a l q h m.long) ∙ m.entries (has_entries a l h) t;
@@ -174,7 +174,7 @@ module _ {A : Type 0} where
   -- the same of an entry that is put in
   module _ (a : Area) (at : ℕ) (v : A) (l : List A) where
     pub put_in : (q : List A) → Lies a (length l) → PutIn a.front a.behind (record { front = at; new = true }) v (part a l) q → PutsIn a at v l (with a l q)
-    unfolding entriesIn
+    unfolding entries_in
     put_in q h m = record {
       elsewhere = elsewhere_back a l q h m.long;
       entries = λ w r t.

@@ -36,8 +36,8 @@ module _ {A : Type 0} where
   abbrev pub part : Area → List A → List A
   part a l = take (a.to - a.from) (drop a.from l)
 
-  unfoldable pub entriesIn : Area → List A → List A
-  entriesIn a l = closed a.front a.behind (part a l)
+  unfoldable pub entries_in : Area → List A → List A
+  entries_in a l = closed a.front a.behind (part a l)
 
   -- all that is before the area and behind it is as it was
   pub record Elsewhere (a : Area) (l after : List A) : Type 0 where
@@ -48,9 +48,9 @@ module _ {A : Type 0} where
   -- n entries come before the gap, and all entries are as they were
   pub record MovedIn (a : Area) (n : ℕ) (l after : List A) : Type 0 where
     pub elsewhere : Elsewhere a l after
-    pub entries : Lies a (length l) → n ≤ many a → entriesIn (gap_at a n) after ≡ entriesIn a l
+    pub entries : Lies a (length l) → n ≤ many a → entries_in (gap_at a n) after ≡ entries_in a l
 
   -- v is put in at this index, where there is room for it
   pub record PutsIn (a : Area) (at : ℕ) (v : A) (l after : List A) : Type 0 where
     pub elsewhere : Elsewhere a l after
-    pub entries : Lies a (length l) → many a < a.to - a.from → at ≤ many a → entriesIn (one_more_at a at) after ≡ ins at v (entriesIn a l)
+    pub entries : Lies a (length l) → many a < a.to - a.from → at ≤ many a → entries_in (one_more_at a at) after ≡ ins at v (entries_in a l)

@@ -41,8 +41,8 @@ module _ {A : Type 0} where
     pub entries : CanTake front behind s l → closed (cond s.new (suc s.front) s.front) (front + behind - s.front) after ≡ shown
 
   -- the entries with v, where it is new, at its spot
-  abbrev pub withNew : Spot → A → List A → List A
-  withNew s v l = cond s.new (ins s.front v l) l
+  abbrev pub with_new : Spot → A → List A → List A
+  with_new s v l = cond s.new (ins s.front v l) l
 
   abbrev pub PutIn : ℕ → ℕ → Spot → A → List A → List A → Type 0
-  PutIn front behind s v l after = Shows front behind s (withNew s v (closed front behind l)) l after
+  PutIn front behind s v l after = Shows front behind s (with_new s v (closed front behind l)) l after

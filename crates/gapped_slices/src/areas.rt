@@ -2,7 +2,7 @@
 // there is no such area in a slice nothing changes.
 ghost use Rattle.std.specs.Prelude.{true, false, ◌≡◌, ℕ, ◌<◌, ltb, length};
 ghost use Rattle.field_slices.specs.Places.{pairs, below};
-ghost use Rattle.gapped_slices.specs.Areas.{Lies, MovedIn, PutsIn, entriesIn, many, stand_of};
+ghost use Rattle.gapped_slices.specs.Areas.{Lies, MovedIn, PutsIn, entries_in, many, stand_of};
 ghost use Rattle.gapped_slices.specs.Spots.{Spotted};
 
 use crate::gaps::{
@@ -153,7 +153,7 @@ pub fn put_in_point(points: &mut [[f64; 3]], area: Area, at: usize, v: [f64; 3])
 // ---- where an entry belongs among those of an area
 
 pub fn spot_in_key(keys: &[u64], area: Area, key: u64) -> Spot
-    ensures { let k = keys.now in Lies area (length k) → Spotted ltb (entriesIn area k) key result }
+    ensures { let k = keys.now in Lies area (length k) → Spotted ltb (entries_in area k) key result }
 {
     if is_area(keys.len(), area) {
         let from = area.from;
@@ -168,7 +168,7 @@ pub fn spot_in_key(keys: &[u64], area: Area, key: u64) -> Spot
 
 pub fn spot_in(keys: &[u64], names: &[u64], area: Area, key: u64, name: u64) -> Spot
     ensures { let k = keys.now in let n = names.now in
-        Lies area (length k) → Lies area (length n) → Spotted below (pairs (entriesIn area k) (entriesIn area n)) (key, name) result }
+        Lies area (length k) → Lies area (length n) → Spotted below (pairs (entries_in area k) (entries_in area n)) (key, name) result }
 {
     if is_area(smaller(keys.len(), names.len()), area) {
         let from = area.from;

@@ -1,4 +1,4 @@
--- What a byte does to the line number, by its range; and a turn of the loop over a text is one clause of `outsideFrom`.
+-- What a byte does to the line number, by its range; and a turn of the loop over a text is one clause of `outside_from`.
 use mathlib.Core.Path.{◌≡◌, refl, sym, ap, ◌∙◌}
 use mathlib.Core.List.{List}
 use mathlib.Core.Bool.{Bool, true, false, cond}

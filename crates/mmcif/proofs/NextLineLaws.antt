@@ -72,13 +72,13 @@ module _ (text : List ℕ) (settings : Settings) (from : Stage) (few : suc (leng
   abbrev passed : Act → Halt
   passed act = (passed_at from.number from.standing.held act).halt
 
-  abbrev placeBy : Act → ℕ
-  placeBy act = onward_to (passed act) line.next (length text)
+  abbrev place_by : Act → ℕ
+  place_by act = onward_to (passed act) line.next (length text)
 
   -- the stage after a line of this act
-  abbrev pub stageWith : Act → Stage
-  stageWith act = record {
-    at = placeBy act;
+  abbrev pub stage_with : Act → Stage
+  stage_with act = record {
+    at = place_by act;
     number = number_after from.number;
     heads = plan.heads;
     standing = passed_at from.number from.standing.held act;
@@ -86,20 +86,20 @@ module _ (text : List ℕ) (settings : Settings) (from : Stage) (few : suc (leng
   }
 
   -- ---- the next place lies further on in the text
-  pub next_moves : (act : Act) → (from.at < placeBy act) × (placeBy act ≤ length text)
+  pub next_moves : (act : Act) → (from.at < place_by act) × (place_by act ≤ length text)
   next_moves Pass = (omega (arith, l.moves), omega (arith, l.inside))
   next_moves Skip = (omega (arith, l.moves), omega (arith, l.inside))
   next_moves (Keep s) = (omega (arith, l.moves), omega (arith, l.inside))
   next_moves (Refuse why) = (omega arith, omega arith)
 
   -- no chain is met
-  pub none_met : (act : Act) → met (stageWith act) ≡ met from
+  pub none_met : (act : Act) → met (stage_with act) ≡ met from
   none_met Pass = refl
   none_met Skip = refl
   none_met (Keep s) = refl
   none_met (Refuse why) = refl
 
-  at_next : (act : Act) → GoesOn act → placeBy act ≡ line.next
+  at_next : (act : Act) → GoesOn act → place_by act ≡ line.next
   at_next Pass g = refl
   at_next Skip g = refl
   at_next (Keep s) g = refl
@@ -109,7 +109,7 @@ module _ (text : List ℕ) (settings : Settings) (from : Stage) (few : suc (leng
     next_number : number_after from.number ≡ suc from.number
     next_number = number_after_lem from.number (omega (arith, i.1))
 
-    pub next_inside : (act : Act) → Inside text (stageWith act)
+    pub next_inside : (act : Act) → Inside text (stage_with act)
     next_inside act = let m = next_moves act in (m.1, omega (arith, m.0, i.1, next_number))
 
     -- ---- what is to be reached stays
@@ -117,7 +117,7 @@ module _ (text : List ℕ) (settings : Settings) (from : Stage) (few : suc (leng
       abbrev behind : State → Making
       behind st = made room st (acts_from settings (suc from.number) (moved_by from.heads bytes).heads (lines_of (drop line.next text)))
 
-      same_rest : (st : State) (act : Act) → line_act settings from.heads bytes ≡ act → (m : Making) → done room st (asked act) ≡ m → and_then m (rest text settings room (stageWith act)) ≡ and_then m behind
+      same_rest : (st : State) (act : Act) → line_act settings from.heads bytes ≡ act → (m : Making) → done room st (asked act) ≡ m → and_then m (rest text settings room (stage_with act)) ≡ and_then m behind
       same_rest st act e (going s) d =
           let goes = done_goes room st (asked act) s d in
           let short = short_enough settings from.heads bytes (subst GoesOn (sym e) goes) in
@@ -126,7 +126,7 @@ module _ (text : List ℕ) (settings : Settings) (from : Stage) (few : suc (leng
           λ j. made room s (acts_from settings (next_number j) (heads j) (lines_of (drop (place j) text)))
       same_rest st act e (halted why) d = refl
 
-      finish_with : (st : State) (act : Act) → line_act settings from.heads bytes ≡ act → rest text settings room from st ≡ target → and_then (done room st (asked act)) (rest text settings room (stageWith act)) ≡ target
+      finish_with : (st : State) (act : Act) → line_act settings from.heads bytes ≡ act → rest text settings room from st ≡ target → and_then (done room st (asked act)) (rest text settings room (stage_with act)) ≡ target
       finish_with st act e finish =
           same_rest st act e (done room st (asked act)) refl
           ∙ ap (λ (a : Act). and_then (done room st (asked a)) behind) (sym e)
@@ -135,7 +135,7 @@ module _ (text : List ℕ) (settings : Settings) (from : Stage) (few : suc (leng
           ∙ finish
 
       reached_with : (m : Making) → Stands room r from.standing m → Placed text from m → and_then m (rest text settings room from) ≡ target
-          → (act : Act) → line_act settings from.heads bytes ≡ act → Reached text settings room target (stageWith act) r
+          → (act : Act) → line_act settings from.heads bytes ≡ act → Reached text settings room target (stage_with act) r
       unfolding step
       reached_with (halted why) stands placed finish act e = absurd (omega arith)
       reached_with (going st) stands placed finish Pass e = record {
@@ -166,5 +166,5 @@ module _ (text : List ℕ) (settings : Settings) (from : Stage) (few : suc (leng
         finish = finish_with st (Refuse why) e finish;
       }
 
-      pub next_reached : (act : Act) → plan.act ≡ act → Between text settings room target from r → Reached text settings room target (stageWith act) r
+      pub next_reached : (act : Act) → plan.act ≡ act → Between text settings room target from r → Reached text settings room target (stage_with act) r
       next_reached act e b = reached_with b.making b.stands b.placed b.finish act (sym (plan_act settings from.heads bytes) ∙ e)

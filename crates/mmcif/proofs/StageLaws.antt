@@ -25,7 +25,7 @@ use Rattle.mmcif.specs.declared.stages.Waiting.{Waiting}
 use Rattle.mmcif.specs.declared.stages.Waiting.TheVariants.{Nothing, Row}
 use Rattle.mmcif.specs.Plans.{plan_of}
 use Rattle.mmcif.specs.Stages.{onward_to, is_waiting, stage_at, met, Inside, rest, Placed, Between, Before, ReachedBy, Reached, GoesOnTo}
-use Rattle.mmcif.proofs.NextLineLaws.{waiting_by, stageWith, next_moves, none_met, next_inside, next_reached}
+use Rattle.mmcif.proofs.NextLineLaws.{waiting_by, stage_with, next_moves, none_met, next_inside, next_reached}
 
 at_most_one : (w : Waiting) → count (is_waiting w) ≤ 1
 at_most_one Nothing = omega arith
@@ -45,7 +45,7 @@ module _ (text : List ℕ) (settings : Settings) where
   module _ (few : suc (length text) < 2 ^ 64) (from s : Stage) (w : OnTheWay from s) (more : s.at < length text) (line : Line) (l : LineAt text s.at line) (act : Act)
       (e : (plan_of settings s.heads (take (line.end - s.at) (drop s.at text))).act ≡ act) where
     abbrev next : Stage
-    next = stageWith text settings s few more line l act
+    next = stage_with text settings s few more line l act
 
     moves : (s.at < next.at) × (next.at ≤ length text)
     moves = next_moves text settings s few more line l act

@@ -42,15 +42,15 @@ module _ {W : Type 0} where
   -- ---- what is found after a put
   module _ (k : ℕ) (f : Option W → W) where
     -- a put, once it is known how k stands to the first key
-    abbrev putBy : Ordering → Entry W → Map W → Map W
-    putBy o e m = choose o (made k f none ∷ e ∷ m) (made k f (some e.value) ∷ m) (e ∷ put k f m)
+    abbrev put_by : Ordering → Entry W → Map W → Map W
+    put_by o e m = choose o (made k f none ∷ e ∷ m) (made k f (some e.value) ∷ m) (e ∷ put k f m)
 
     pub find_put : (m : Map W) → find k (put k f m) ≡ some (f (find k m))
     unfolding find put
     find_put [] = choose_same k k _ _ _ refl
     find_put (e ∷ m) = go (compare k e.key) (compared k e.key) (find_put m)
       where
-        go : (o : Ordering) → Compared o k e.key → find k (put k f m) ≡ some (f (find k m)) → find k (putBy o e m) ≡ some (f (choose o none (some e.value) (find k m)))
+        go : (o : Ordering) → Compared o k e.key → find k (put k f m) ≡ some (f (find k m)) → find k (put_by o e m) ≡ some (f (choose o none (some e.value) (find k m)))
         go Ordering.lt h r = choose_same k k _ _ _ refl
         go Ordering.eq h r = choose_same k k _ _ _ refl
         go Ordering.gt h r = choose_more k e.key _ _ _ h ∙ r
@@ -66,7 +66,7 @@ module _ {W : Type 0} where
     find_put_other j (e ∷ m) n = go (compare k e.key) (compared k e.key) (compare j k) (compared j k) (find_put_other j m n)
       where
         go : (o : Ordering) → Compared o k e.key → (p : Ordering) → Compared p j k → find j (put k f m) ≡ find j m
-            → find j (putBy o e m) ≡ choose (compare j e.key) none (some e.value) (find j m)
+            → find j (put_by o e m) ≡ choose (compare j e.key) none (some e.value) (find j m)
         go o h Ordering.eq g r = absurd (n g)
         go Ordering.lt h Ordering.lt g r = choose_less j k _ _ _ g ∙ sym (choose_less j e.key _ _ _ (omega arith))
         go Ordering.lt h Ordering.gt g r = choose_more j k _ _ _ g
@@ -85,7 +85,7 @@ module _ {W : Type 0} where
         one_more false n = refl
 
         go : (o : Ordering) → length (put k f m) ≡ cond (is_none (find k m)) (suc (length m)) (length m)
-            → length (putBy o e m) ≡ cond (is_none (choose o none (some e.value) (find k m))) (suc (suc (length m))) (suc (length m))
+            → length (put_by o e m) ≡ cond (is_none (choose o none (some e.value) (find k m))) (suc (suc (length m))) (suc (length m))
         go Ordering.lt r = refl
         go Ordering.eq r = refl
         go Ordering.gt r = ap suc r ∙ one_more (is_none (find k m)) (length m)
@@ -96,7 +96,7 @@ module _ {W : Type 0} where
     ascending_put b [] h a = (h, tt)
     ascending_put b (e ∷ m) h a = go (compare k e.key) (compared k e.key) (λ w. ascending_put (suc e.key) m w a.1)
       where
-        go : (o : Ordering) → Compared o k e.key → (suc e.key ≤ k → AscendingFrom (suc e.key) (put k f m)) → AscendingFrom b (putBy o e m)
+        go : (o : Ordering) → Compared o k e.key → (suc e.key ≤ k → AscendingFrom (suc e.key) (put k f m)) → AscendingFrom b (put_by o e m)
         go Ordering.lt g r = (h, (g, a.1))
         go Ordering.eq g r = (h, subst (λ (x : ℕ). AscendingFrom (suc x) m) (sym g) a.1)
         go Ordering.gt g r = (a.0, r g)

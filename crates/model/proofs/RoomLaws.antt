@@ -50,27 +50,27 @@ module _ (room : Room) (st : State) (s : Site) where
   abbrev c : List ℕ
   c = with_chain s.chain st.chains
 
-  abbrev newChain : Bool
-  newChain = leb (length st.chains) (chain_place s.chain st.chains)
+  abbrev new_chain : Bool
+  new_chain = leb (length st.chains) (chain_place s.chain st.chains)
 
-  abbrev newResidue : Bool
-  newResidue = is_none (find (residue_at c s) st.residues)
+  abbrev new_residue : Bool
+  new_residue = is_none (find (residue_at c s) st.residues)
 
-  abbrev newAtom : Bool
-  newAtom = is_none (find (atom_at c s) st.atoms)
+  abbrev new_atom : Bool
+  new_atom = is_none (find (atom_at c s) st.atoms)
 
   -- what is said of the chains, residues and atoms there were, and of those there are then
   abbrev Sizes : (ℕ → ℕ → ℕ → Bool → Type 0) → Type 0
   Sizes P =
-      P room.chains (length st.chains) (length c) newChain
-      × P room.residues (length st.residues) (length (put (residue_at c s) (first s) st.residues)) newResidue
-      × P room.atoms (length st.atoms) (length (put (atom_at c s) (greater s) st.atoms)) newAtom
+      P room.chains (length st.chains) (length c) new_chain
+      × P room.residues (length st.residues) (length (put (residue_at c s) (first s) st.residues)) new_residue
+      × P room.atoms (length st.atoms) (length (put (atom_at c s) (greater s) st.atoms)) new_atom
 
   sizes : (P : ℕ → ℕ → ℕ → Bool → Type 0) → ((room many after : ℕ) (new : Bool) → after ≡ cond new (suc many) many → P room many after new) → Sizes P
   sizes P h = (
-    h _ _ _ newChain (length_with s.chain st.chains),
-    h _ _ _ newResidue (length_put (residue_at c s) (first s) st.residues),
-    h _ _ _ newAtom (length_put (atom_at c s) (greater s) st.atoms),
+    h _ _ _ new_chain (length_with s.chain st.chains),
+    h _ _ _ new_residue (length_put (residue_at c s) (first s) st.residues),
+    h _ _ _ new_atom (length_put (atom_at c s) (greater s) st.atoms),
   )
 
   fits_site : Fits room (step st (site s)) → lacking room st (site s) ≡ Nothing
@@ -80,7 +80,7 @@ module _ (room : Room) (st : State) (s : Site) where
   site_fits : Fits room st → lacking room st (site s) ≡ Nothing → Fits room (step st (site s))
   unfolding step lacking
   site_fits f e =
-      let n = nothing_lacks (no_room newChain room.chains (length st.chains)) (no_room newResidue room.residues (length st.residues)) (no_room newAtom room.atoms (length st.atoms)) e in
+      let n = nothing_lacks (no_room new_chain room.chains (length st.chains)) (no_room new_residue room.residues (length st.residues)) (no_room new_atom room.atoms (length st.atoms)) e in
       let h = sizes (λ room many after new. many ≤ room → no_room new room many ≡ false → after ≤ room) suffices in
       record { chains = h.0 f.chains n.0; residues = h.1 f.residues n.1; atoms = h.2 f.atoms n.2 }
 

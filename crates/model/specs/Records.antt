@@ -3,7 +3,7 @@ use Rattle.std.specs.Prelude.{List, ℕ, Float}
 use Rattle.rows.specs.declared.rules.Point3.{Point3}
 
 pub record ResidueRecord : Type 0 where
-  -- chain, sequence and insertion code: `residueKey`
+  -- chain, sequence and insertion code: `residue_key`
   pub key : ℕ
   pub name : ℕ
   pub code : ℕ

@@ -1,4 +1,4 @@
--- What is printed of a finite double is the number of units nearest its magnitude, ties to even: `unitsOf` is `closest`, which is the nearest.
+-- What is printed of a finite double is the number of units nearest its magnitude, ties to even: `units_of` is `closest`, which is the nearest.
 use mathlib.Core.Bool.{Bool}
 use Prim.Native.Nat.{ℕ, ◌*◌, ◌^◌}
 use lib.IntN.{ℤ}

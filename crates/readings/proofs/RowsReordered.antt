@@ -126,10 +126,10 @@ module _ (a b : List Asked) (d : ActsReordered a b) where
       ∙ sym (of_parts s d.reordered)
       ∙ ap (of_atom s) (sym other_rows_are)
 
-  abbrev skippedOf : Act → ℕ
-  skippedOf act = skipped_in (row_in act)
+  abbrev skipped_of : Act → ℕ
+  skipped_of act = skipped_in (row_in act)
 
-  skipped_parts : (acts : List Act) → skipped_in (rows_among d.before ++ (rows_among acts ++ rows_among d.after)) ≡ skipped_in (rows_among d.before) + (total skippedOf acts + skipped_in (rows_among d.after))
+  skipped_parts : (acts : List Act) → skipped_in (rows_among d.before ++ (rows_among acts ++ rows_among d.after)) ≡ skipped_in (rows_among d.before) + (total skipped_of acts + skipped_in (rows_among d.after))
   skipped_parts acts =
       skipped_append (rows_among d.before) (rows_among acts ++ rows_among d.after)
       ∙ ap (λ (n : ℕ). skipped_in (rows_among d.before) + n) (skipped_append (rows_among acts) (rows_among d.after))
@@ -139,7 +139,7 @@ module _ (a b : List Asked) (d : ActsReordered a b) where
   same_skipped =
       ap skipped_in rows_are
       ∙ skipped_parts d.part
-      ∙ ap (λ (n : ℕ). skipped_in (rows_among d.before) + (n + skipped_in (rows_among d.after))) (total_reordered skippedOf d.order)
+      ∙ ap (λ (n : ℕ). skipped_in (rows_among d.before) + (n + skipped_in (rows_among d.after))) (total_reordered skipped_of d.order)
       ∙ sym (skipped_parts d.reordered)
       ∙ ap skipped_in (sym other_rows_are)
 

@@ -112,19 +112,19 @@ well m e =
     let r : run ≡ true = right_of chained run two in
     let o : ordered ≡ true = right_of (chained && run) ordered three in
     let named : ℕ → Bool = λ c. is_name c && not (eqb c (packed (bytes "."))) in
-    let inChains = same_list (runs_of (map (λ r. chain_part r.key) m.residues)) (list_from (λ i. i) 0 (length m.chains)) in
-    let inResidues = same_list (runs_of (map (λ a. a.key) m.atoms)) (map (λ r. r.key) m.residues) in
-    let keysAscend = ascends (map (λ r. r.key) m.residues) in
-    let placesAscend = ascends (map (λ a. atom_place a.key a.name) m.atoms) in
+    let in_chains = same_list (runs_of (map (λ r. chain_part r.key) m.residues)) (list_from (λ i. i) 0 (length m.chains)) in
+    let in_residues = same_list (runs_of (map (λ a. a.key) m.atoms)) (map (λ r. r.key) m.residues) in
+    let keys_ascend = ascends (map (λ r. r.key) m.residues) in
+    let places_ascend = ascends (map (λ a. atom_place a.key a.name) m.atoms) in
     record {
       differing = left_of (differ m.chains) (every named m.chains) c;
       chains = λ n d.
           let t = every_at named m.chains (right_of (differ m.chains) (every named m.chains) c) n d in
           (left_of (is_name n) (not (eqb n (packed (bytes ".")))) t, right_of (is_name n) (not (eqb n (packed (bytes ".")))) t);
-      residue_runs = list_same _ _ (left_of inChains inResidues r);
-      atom_runs = list_same _ _ (right_of inChains inResidues r);
-      residues_ascend = left_of keysAscend placesAscend o;
-      atoms_ascend = right_of keysAscend placesAscend o;
+      residue_runs = list_same _ _ (left_of in_chains in_residues r);
+      atom_runs = list_same _ _ (right_of in_chains in_residues r);
+      residues_ascend = left_of keys_ascend places_ascend o;
+      atoms_ascend = right_of keys_ascend places_ascend o;
       residues = λ t d. residue_so m t (every_at (residue_well m) m.residues (right_of (chained && run && ordered) housed four) t d);
       atoms = λ a d. atom_so a (every_at atom_well m.atoms (right_of (chained && run && ordered && housed) peopled e) a d);
     }

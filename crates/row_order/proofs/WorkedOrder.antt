@@ -138,10 +138,10 @@ same_residues s =
 
 -- ---- atoms
 module _ (s : Site) where
-  abbrev isOfIt : List ℕ → Bool
-  isOfIt = is_row_of assuming columns s
+  abbrev is_of_it : List ℕ → Bool
+  is_of_it = is_row_of assuming columns s
 
-  of_another : (line : List ℕ) (t : Site) → given_by assuming columns line ≡ site t ∷ [] → (t.sequence ≡ third.taken.sequence → ⊥) → isOfIt line ≡ true → isOfIt oxygen ≡ false
+  of_another : (line : List ℕ) (t : Site) → given_by assuming columns line ≡ site t ∷ [] → (t.sequence ≡ third.taken.sequence → ⊥) → is_of_it line ≡ true → is_of_it oxygen ≡ false
   of_another line t given differs e =
       let of-t = or_false (same_atom s t) (sym (ap (any (is_of s)) given) ∙ e) in
       let not_third = apart s t third.taken differs (left_of (same_residue s t) (eqb t.atom s.atom) of-t) in
@@ -151,11 +151,11 @@ module _ (s : Site) where
       or_false true e = refl
       or_false false e = e
 
-  of_none : (line : List ℕ) → given_by assuming columns line ≡ [] → isOfIt line ≡ true → isOfIt oxygen ≡ false
+  of_none : (line : List ℕ) → given_by assuming columns line ≡ [] → is_of_it line ≡ true → is_of_it oxygen ≡ false
   of_none line given e = absurd (false≢true (sym (ap (any (is_of s)) given) ∙ e))
 
-  same_atoms : filter isOfIt (others ++ (oxygen ∷ [])) ≡ filter isOfIt (oxygen ∷ others)
-  same_atoms = to_the_front isOfIt oxygen others (
+  same_atoms : filter is_of_it (others ++ (oxygen ∷ [])) ≡ filter is_of_it (oxygen ∷ others)
+  same_atoms = to_the_front is_of_it oxygen others (
     of_another carbon first.taken first.given first_differs,
     (
       of_none comment (none_given comment are_rows.1),

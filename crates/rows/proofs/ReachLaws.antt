@@ -1,4 +1,4 @@
--- A turn of a loop over the columns is one clause of `firstAbsent` or of `furthest`; and a row misses some declared column exactly where it
+-- A turn of a loop over the columns is one clause of `first_absent` or of `furthest`; and a row misses some declared column exactly where it
 -- does not reach the furthest of them.
 use mathlib.Core.Path.{◌≡◌, refl, sym, ap, ◌∙◌}
 use mathlib.Core.List.{List, [], ◌∷◌}

@@ -16,18 +16,18 @@ use Rattle.tokens.specs.Quote.{has, all_plain, quote_for, in_quotes, quote_of}
 
 -- ---- a byte that is looked for
 module _ (b : ℕ) (s : List ℕ) (i : ℕ) where
-  abbrev hasMore : Bool
-  hasMore = has b (drop (i + 1) s)
+  abbrev has_rest : Bool
+  has_rest = has b (drop (i + 1) s)
 
-  has_step : i < length s → has b (drop i s) ≡ (eqb (get_or s i 0) b || hasMore)
+  has_step : i < length s → has b (drop i s) ≡ (eqb (get_or s i 0) b || has_rest)
   unfolding has
   has_step h = rw (add-one, drop-cons s i 0 h)
 
   pub has_here : i < length s → get_or s i 0 ≡ b → has b (drop i s) ≡ true
-  has_here h e = has_step h ∙ ap (λ (t : Bool). t || hasMore) (eq-eqb (get_or s i 0) b e)
+  has_here h e = has_step h ∙ ap (λ (t : Bool). t || has_rest) (eq-eqb (get_or s i 0) b e)
 
-  pub has_more : i < length s → (get_or s i 0 ≡ b → ⊥) → has b (drop i s) ≡ hasMore
-  has_more h n = has_step h ∙ ap (λ (t : Bool). t || hasMore) (ne_eqb (get_or s i 0) b n)
+  pub has_more : i < length s → (get_or s i 0 ≡ b → ⊥) → has b (drop i s) ≡ has_rest
+  has_more h n = has_step h ∙ ap (λ (t : Bool). t || has_rest) (ne_eqb (get_or s i 0) b n)
 
   pub has_end : length s ≤ i → has b (drop i s) ≡ false
   unfolding has
@@ -35,18 +35,18 @@ module _ (b : ℕ) (s : List ℕ) (i : ℕ) where
 
 -- ---- plain bytes
 module _ (s : List ℕ) (i : ℕ) where
-  abbrev plainMore : Bool
-  plainMore = all_plain (drop (i + 1) s)
+  abbrev plain_rest : Bool
+  plain_rest = all_plain (drop (i + 1) s)
 
-  plain_step : i < length s → all_plain (drop i s) ≡ (is_plain (get_or s i 0) && plainMore)
+  plain_step : i < length s → all_plain (drop i s) ≡ (is_plain (get_or s i 0) && plain_rest)
   unfolding all_plain
   plain_step h = rw (add-one, drop-cons s i 0 h)
 
   pub plain_stop : i < length s → is_plain (get_or s i 0) ≡ false → all_plain (drop i s) ≡ false
-  plain_stop h e = plain_step h ∙ ap (λ (t : Bool). t && plainMore) e
+  plain_stop h e = plain_step h ∙ ap (λ (t : Bool). t && plain_rest) e
 
-  pub plain_more : i < length s → is_plain (get_or s i 0) ≡ true → all_plain (drop i s) ≡ plainMore
-  plain_more h e = plain_step h ∙ ap (λ (t : Bool). t && plainMore) e
+  pub plain_more : i < length s → is_plain (get_or s i 0) ≡ true → all_plain (drop i s) ≡ plain_rest
+  plain_more h e = plain_step h ∙ ap (λ (t : Bool). t && plain_rest) e
 
   pub plain_end : length s ≤ i → all_plain (drop i s) ≡ true
   unfolding all_plain

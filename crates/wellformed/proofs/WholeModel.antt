@@ -87,32 +87,32 @@ module _ (l : Lent) (counts : Room) where
       }
 
   -- ---- the rules, as the slices are tested for them
-  abbrev pub chainsTested : Bool
-  chainsTested = chains_well (take chains l.chains)
+  abbrev pub chains_tested : Bool
+  chains_tested = chains_well (take chains l.chains)
 
-  abbrev pub runsTested : Bool
-  runsTested = chains_run l.residue_keys chains residues && residues_run l.residue_keys l.atom_keys residues atoms
+  abbrev pub runs_tested : Bool
+  runs_tested = chains_run l.residue_keys chains residues && residues_run l.residue_keys l.atom_keys residues atoms
 
-  abbrev pub orderTested : Bool
-  orderTested = residues_ascend l.residue_keys residues && atoms_ascend l.atom_keys l.atom_names atoms
+  abbrev pub order_tested : Bool
+  order_tested = residues_ascend l.residue_keys residues && atoms_ascend l.atom_keys l.atom_names atoms
 
-  abbrev pub atomsTested : Bool
-  atomsTested = atoms_well l.atom_names l.elements l.positions atoms
+  abbrev pub atoms_tested : Bool
+  atoms_tested = atoms_well l.atom_names l.elements l.positions atoms
 
-  abbrev pub residuesTested : Bool
-  residuesTested = residues_well l.residue_keys l.residue_names l.residue_codes l.residue_categories l.residue_positions l.atom_keys residues atoms
+  abbrev pub residues_tested : Bool
+  residues_tested = residues_well l.residue_keys l.residue_names l.residue_codes l.residue_categories l.residue_positions l.atom_keys residues atoms
 
   -- ---- the model in the slices
   abbrev model : Model
   model = model_in l counts
 
-  abbrev theResidues : List ResidueRecord
-  theResidues = list_from (residue_in l) 0 residues
+  abbrev the_residues : List ResidueRecord
+  the_residues = list_from (residue_in l) 0 residues
 
-  abbrev theAtoms : List AtomRecord
-  theAtoms = list_from (atom_in l) 0 atoms
+  abbrev the_atoms : List AtomRecord
+  the_atoms = list_from (atom_in l) 0 atoms
 
-  runs_are : chains ≤ length l.chains → runsTested ≡ in_runs model
+  runs_are : chains ≤ length l.chains → runs_tested ≡ in_runs model
   unfolding in_runs model_in
   runs_are h =
       rw (
@@ -122,59 +122,59 @@ module _ (l : Lent) (counts : Room) where
         map_from (λ r. r.key) (residue_in l) 0 residues,
       )
 
-  order_is : orderTested ≡ in_order model
+  order_is : order_tested ≡ in_order model
   unfolding in_order model_in
   order_is = rw (map_from (λ r. r.key) (residue_in l) 0 residues, map_from (λ a. atom_place a.key a.name) (atom_in l) 0 atoms)
 
-  atoms_are : atomsTested ≡ every atom_well model.atoms
+  atoms_are : atoms_tested ≡ every atom_well model.atoms
   unfolding atom_well model_in
   atoms_are = sym (every_from atom_well (atom_in l) 0 atoms)
 
   -- ---- the residues
-  abbrev isNamed : ResidueRecord → Bool
-  isNamed r = is_name r.name && is_code (code_part r.key)
+  abbrev is_named : ResidueRecord → Bool
+  is_named r = is_name r.name && is_code (code_part r.key)
 
   abbrev is_placed : ResidueRecord → Bool
-  is_placed r = eqb r.position (ruled_position theResidues r)
+  is_placed r = eqb r.position (ruled_position the_residues r)
 
-  three : every (residue_well model) model.residues ≡ (every isNamed theResidues && every (class_well theAtoms) theResidues && every is_placed theResidues)
+  three : every (residue_well model) model.residues ≡ (every is_named the_residues && every (class_well the_atoms) the_residues && every is_placed the_residues)
   unfolding residue_well model_in
   three =
-      every_both (λ r. isNamed r && class_well theAtoms r) is_placed theResidues
-      ∙ ap (λ (t : Bool). t && every is_placed theResidues) (every_both isNamed (class_well theAtoms) theResidues)
+      every_both (λ r. is_named r && class_well the_atoms r) is_placed the_residues
+      ∙ ap (λ (t : Bool). t && every is_placed the_residues) (every_both is_named (class_well the_atoms) the_residues)
 
-  module _ (w : WithinOf l counts) (runs : runsTested ≡ true) (order : orderTested ≡ true) (named : atomsTested ≡ true) where
-    ascending : ascends (map (λ r. r.key) theResidues) ≡ true
+  module _ (w : WithinOf l counts) (runs : runs_tested ≡ true) (order : order_tested ≡ true) (named : atoms_tested ≡ true) where
+    ascending : ascends (map (λ r. r.key) the_residues) ≡ true
     ascending = ap ascends (map_from (λ r. r.key) (residue_in l) 0 residues) ∙ left_of _ _ order
 
-    rising : Rising (map (λ a. a.key) theAtoms)
+    rising : Rising (map (λ a. a.key) the_atoms)
     unfolding atom_well
     rising =
-        keys_of_records theAtoms
-        (all_map (λ a. atom_well a ≡ true) (λ a. a.name < 2 ^ 64) (λ a e. name_below a.name (left_of (is_name a.name) (leb a.element 118) (left_of (is_name a.name && leb a.element 118) (is_near a.position) e))) theAtoms
-        (every_all atom_well theAtoms (every_from atom_well (atom_in l) 0 atoms ∙ named)))
+        keys_of_records the_atoms
+        (all_map (λ a. atom_well a ≡ true) (λ a. a.name < 2 ^ 64) (λ a e. name_below a.name (left_of (is_name a.name) (leb a.element 118) (left_of (is_name a.name && leb a.element 118) (is_near a.position) e))) the_atoms
+        (every_all atom_well the_atoms (every_from atom_well (atom_in l) 0 atoms ∙ named)))
         (ap ascends (map_from (λ a. atom_place a.key a.name) (atom_in l) 0 atoms) ∙ right_of (residues_ascend l.residue_keys residues) _ order)
 
-    keys : map (λ a. a.key) theAtoms ≡ take atoms l.atom_keys
+    keys : map (λ a. a.key) the_atoms ≡ take atoms l.atom_keys
     keys = map_from (λ a. a.key) (atom_in l) 0 atoms ∙ all_is l.atom_keys atoms w.of_atom_keys
 
-    peopled : same_list (runs_of (map (λ a. a.key) theAtoms)) (map (λ r. r.key) theResidues) ≡ true
+    peopled : same_list (runs_of (map (λ a. a.key) the_atoms)) (map (λ r. r.key) the_residues) ≡ true
     peopled =
-        ap (λ (m : List ℕ). same_list (runs_of m) (map (λ r. r.key) theResidues)) (map_from (λ a. a.key) (atom_in l) 0 atoms)
+        ap (λ (m : List ℕ). same_list (runs_of m) (map (λ r. r.key) the_residues)) (map_from (λ a. a.key) (atom_in l) 0 atoms)
         ∙ ap (same_list (runs_of (list_from (entries l.atom_keys) 0 atoms))) (map_from (λ r. r.key) (residue_in l) 0 residues)
         ∙ right_of (chains_run l.residue_keys chains residues) _ runs
 
-    classes : every (class_well theAtoms) theResidues ≡ residues_classed l.residue_keys l.residue_names l.residue_codes l.residue_categories l.atom_keys residues atoms
+    classes : every (class_well the_atoms) the_residues ≡ residues_classed l.residue_keys l.residue_names l.residue_codes l.residue_categories l.atom_keys residues atoms
     classes =
-        sym (classes_walked theAtoms rising theResidues ascending peopled)
-        ∙ ap (λ (m : List ℕ). classed_from m 0 (map classed theResidues)) keys
+        sym (classes_walked the_atoms rising the_residues ascending peopled)
+        ∙ ap (λ (m : List ℕ). classed_from m 0 (map classed the_residues)) keys
         ∙ ap (classed_from (take atoms l.atom_keys) 0) (map_from classed (residue_in l) 0 residues)
 
-    placed : every is_placed theResidues ≡ residues_stand l.residue_keys l.residue_codes l.residue_positions residues
-    placed = sym (positions_walked theResidues ascending) ∙ ap (stands_from 0) (map_from standing (residue_in l) 0 residues)
+    placed : every is_placed the_residues ≡ residues_stand l.residue_keys l.residue_codes l.residue_positions residues
+    placed = sym (positions_walked the_residues ascending) ∙ ap (stands_from 0) (map_from standing (residue_in l) 0 residues)
 
-    residues_are : every (residue_well model) model.residues ≡ residuesTested
-    residues_are = three ∙ rw (every_from isNamed (residue_in l) 0 residues, classes, placed)
+    residues_are : every (residue_well model) model.residues ≡ residues_tested
+    residues_are = three ∙ rw (every_from is_named (residue_in l) 0 residues, classes, placed)
 
   -- ---- all of it
   abbrev whole : Bool
@@ -188,18 +188,18 @@ module _ (l : Lent) (counts : Room) where
   not_counted e = sym (ap (λ (t : Bool). t && well_formed model) e)
 
   module _ (fit : fits ≡ true) where
-    all_five : whole ≡ (chainsTested && runsTested && orderTested && each && atomsTested)
+    all_five : whole ≡ (chains_tested && runs_tested && order_tested && each && atoms_tested)
     unfolding well_formed_in well_formed model_in
     all_five =
         ap (λ (t : Bool). t && well_formed model) fit
-        ∙ ap (λ (t : Bool). chainsTested && t && in_order model && each && every atom_well model.atoms) (sym (runs_are (within_all fit).of_chains))
-        ∙ ap (λ (t : Bool). chainsTested && runsTested && t && each && every atom_well model.atoms) (sym order_is)
-        ∙ ap (λ (t : Bool). chainsTested && runsTested && orderTested && each && t) (sym atoms_are)
+        ∙ ap (λ (t : Bool). chains_tested && t && in_order model && each && every atom_well model.atoms) (sym (runs_are (within_all fit).of_chains))
+        ∙ ap (λ (t : Bool). chains_tested && runs_tested && t && each && every atom_well model.atoms) (sym order_is)
+        ∙ ap (λ (t : Bool). chains_tested && runs_tested && order_tested && each && t) (sym atoms_are)
 
-    pub all_tested : (chainsTested && runsTested && orderTested && atomsTested && residuesTested) ≡ whole
-    all_tested = go chainsTested runsTested orderTested atomsTested refl refl refl ∙ sym all_five
+    pub all_tested : (chains_tested && runs_tested && order_tested && atoms_tested && residues_tested) ≡ whole
+    all_tested = go chains_tested runs_tested order_tested atoms_tested refl refl refl ∙ sym all_five
       where
-        go : (c r o a : Bool) → runsTested ≡ r → orderTested ≡ o → atomsTested ≡ a → (c && r && o && a && residuesTested) ≡ (c && r && o && each && a)
+        go : (c r o a : Bool) → runs_tested ≡ r → order_tested ≡ o → atoms_tested ≡ a → (c && r && o && a && residues_tested) ≡ (c && r && o && each && a)
         go false r o a f g h = refl
         go true false o a f g h = refl
         go true true false a f g h = refl

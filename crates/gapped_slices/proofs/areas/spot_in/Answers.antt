@@ -4,7 +4,7 @@ use mathlib.Core.Path.{◌≡◌}
 use Prim.Native.Nat.{ℕ, min}
 use native.Mathlib.Omega.{arith}
 use lib.ListN.{length}
-use Rattle.gapped_slices.specs.Areas.{Lies, entriesIn}
+use Rattle.gapped_slices.specs.Areas.{Lies, entries_in}
 use Rattle.gapped_slices.proofs.AreaLaws.{has_entries}
 use borrow.Author.Rules.{rules}
 use Rattle.gapped_slices.proofs.areas.spot_in.Goals as goal
@@ -41,7 +41,7 @@ pub slice_bounds-spot_of-end-then-is_area : goal.slice_bounds-spot_of-end-then-i
 slice_bounds-spot_of-end-then-is_area c = (lies c.args.area c.smaller.result (length c.args.keys.now) (length c.args.names.now) c.smaller.ensures (c.is_area.ensures.0 c.if-is_area.true)).1.inside
 
 pub returns-then-is_area : goal.returns-then-is_area
-unfolding entriesIn
+unfolding entries_in
 returns-then-is_area c =
     let a = c.args in
     λ w v. c.spot_of.ensures (has_entries a.area a.keys.now w) (has_entries a.area a.names.now v)

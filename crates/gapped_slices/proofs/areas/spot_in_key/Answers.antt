@@ -1,5 +1,5 @@
 -- A spot in the part is one among the area's entries.
-use Rattle.gapped_slices.specs.Areas.{entriesIn}
+use Rattle.gapped_slices.specs.Areas.{entries_in}
 use Rattle.gapped_slices.proofs.AreaLaws.{has_entries}
 use borrow.Author.Rules.{rules}
 use Rattle.gapped_slices.proofs.areas.spot_in_key.Goals as goal
@@ -17,7 +17,7 @@ pub slice_bounds-spot_of_key-end : goal.slice_bounds-spot_of_key-end
 slice_bounds-spot_of_key-end c = (c.is_area.ensures.0 c.if-is_area.true).inside
 
 pub returns-then-is_area : goal.returns-then-is_area
-unfolding entriesIn
+unfolding entries_in
 returns-then-is_area c = let a = c.args in λ w. c.spot_of_key.ensures (has_entries a.area a.keys.now w)
 
 pub returns : goal.returns

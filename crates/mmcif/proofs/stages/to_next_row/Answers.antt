@@ -17,7 +17,7 @@ use Rattle.mmcif.specs.declared.stages.Stage.{Stage}
 use Rattle.mmcif.specs.declared.stages.Waiting.TheVariants.{Nothing, Row}
 use Rattle.mmcif.specs.Plans.{plan_of}
 use Rattle.mmcif.specs.Stages.{onward_to, number_after, stage_at, GoesOnTo}
-use Rattle.mmcif.proofs.NextLineLaws.{waiting_by, stageWith, none_kept}
+use Rattle.mmcif.proofs.NextLineLaws.{waiting_by, stage_with, none_kept}
 use Rattle.mmcif.proofs.StageLaws.{OnTheWay, sets_out, further_on, one_line, row_met, at_end_lem}
 use Rattle.mmcif.proofs.stages.to_next_row.Goals as goal
 
@@ -26,7 +26,7 @@ module _ (text : List ℕ) (settings : Settings) (here : Stage) (small : suc (le
     (plan : Plan) (planned : plan ≡ plan_of settings here.heads (take (line.end - here.at) (drop here.at text))) (none : waiting_by here.number plan.act ≡ Nothing)
     (standing : Standing) (passed : standing ≡ passed_at here.number here.standing.held plan.act)
     (at : ℕ) (onward : at ≡ onward_to standing.halt line.next (length text)) (number : ℕ) (counted : number ≡ number_after here.number) where
-  next_is : stageWith text settings here small more line there plan.act ≡ stage_at at number plan.heads standing
+  next_is : stage_with text settings here small more line there plan.act ≡ stage_at at number plan.heads standing
   next_is = λ i. record {
     at = (ap (λ (s : Standing). onward_to s.halt line.next (length text)) (sym passed) ∙ sym onward) i;
     number = sym counted i;
