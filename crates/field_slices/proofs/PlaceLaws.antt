@@ -51,7 +51,7 @@ module _ {A : Type 0} {less : A → A → Bool} (o : Order less) (d : A) where
   place_at c (x ∷ l) zero h b e = rw (e, o.irreflexive c)
   place_at c (x ∷ l) (suc i) h b e = rw (b 0 (omega arith), place_at c l i (le_of_suc-le-suc h) (tail_below c x l i b) e)
 
-  -- what the answer says: `place-before` and `place_at` read the other way
+  -- what the answer says: `place_before` and `place_at` read the other way
   abbrev pub Says : A → List A → Place → Type 0
   Says c l (At i) = (i < length l) × (FirstBelow less d c l i × (get_or l i d ≡ c))
   Says c l (Before i) = (i ≤ length l) × (FirstBelow less d c l i × (i < length l → less c (get_or l i d) ≡ true))

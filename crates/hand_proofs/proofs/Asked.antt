@@ -2,7 +2,7 @@
 --     asked            of any parameters.        asked_none       of none
 --     asked_two        of two parameters, of which the first has the one lifetime
 --     counted n        a count is owned for nothing, where its machine values are its own: the step puts it into the context
--- `asked-two` and `counted` take `Logic`. The rest assumes nothing.
+-- `asked_two` and `counted` take `Logic`. The rest assumes nothing.
 use Prim.Native.Nat.{ℕ}
 use mathlib.Core.List.{List, [], ◌∷◌}
 use seplogic.Ra.Ura.{Ura}

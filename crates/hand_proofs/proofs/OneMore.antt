@@ -2,7 +2,7 @@
 --     with-more, vals-more     the arguments passed on with the one value more after them, and their machine values
 --     owns_more                what they own together is what the callee's parameters own
 --     kept_but, lasts-but      of what the callee says of last values, what it says of those passed on.        says_but     and it says that
--- `owns-more` takes `Logic`. The rest assumes nothing.
+-- `owns_more` takes `Logic`. The rest assumes nothing.
 use Prim.Native.Nat.{ℕ}
 use mathlib.Core.List.{List, [], ◌∷◌, ◌++◌}
 use seplogic.Ra.Ura.{Ura}

@@ -1,4 +1,4 @@
--- The code tests what `allDigits` tests: that there is a byte, and that the run of digits is the whole text.
+-- The code tests what `all_digits` tests: that there is a byte, and that the run of digits is the whole text.
 use native.Mathlib.Omega.{arith}
 use lib.ListN.{length}
 use borrow.Author.Tests.{lt-ltb, le-ltb}

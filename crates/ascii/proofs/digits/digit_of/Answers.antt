@@ -1,4 +1,4 @@
--- Each return is one case of `digitOf`, by the tests that led there.
+-- Each return is one case of `digit_of`, by the tests that led there.
 use borrow.Author.Tests.{le-leb, lt-leb}
 use Rattle.ascii.proofs.digits.digit_of.Goals as goal
 

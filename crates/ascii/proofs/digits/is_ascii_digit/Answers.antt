@@ -1,4 +1,4 @@
--- The code tests what `isDigit` tests.
+-- The code tests what `is_digit` tests.
 use borrow.Author.Tests.{le-leb, lt-leb}
 use Rattle.ascii.proofs.digits.is_ascii_digit.Goals as goal
 

@@ -1,4 +1,4 @@
--- Each arm of the match is one case of `isSign`.
+-- Each arm of the match is one case of `is_sign`.
 use mathlib.Core.Logic.{⊎_elim, inl, inr}
 use borrow.Author.Tests.{ne_eqb}
 use Rattle.ascii.specs.Signs.{is_sign}

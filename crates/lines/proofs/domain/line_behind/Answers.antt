@@ -1,4 +1,4 @@
--- The range of the byte, or the byte itself, decides, as in `lineBehind`; for a 13 the byte after it does.
+-- The range of the byte, or the byte itself, decides, as in `line_behind`; for a 13 the byte after it does.
 use mathlib.Core.Path.{sym, ◌∙◌}
 use Prim.Native.Nat.{◌+◌}
 use lib.ListN.{get_or}

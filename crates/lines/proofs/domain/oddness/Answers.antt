@@ -1,4 +1,4 @@
--- The range of the byte, or the byte itself, decides, as in `standsAnywhere`.
+-- The range of the byte, or the byte itself, decides, as in `stands_anywhere`.
 use native.Mathlib.Omega.{arith}
 use borrow.Author.Tests.{ne_eqb, le-leb, lt-leb}
 use Rattle.lines.proofs.domain.oddness.Goals as goal

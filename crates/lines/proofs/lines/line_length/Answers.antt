@@ -1,4 +1,4 @@
--- Where a byte stands before the 10, that byte decides, as in `lineLength`.
+-- Where a byte stands before the 10, that byte decides, as in `line_length`.
 use native.Mathlib.Omega.{arith}
 use borrow.Author.Tests.{eq-eqb, ne_eqb}
 use Rattle.lines.proofs.LineLaws.{length_from}

@@ -1,4 +1,4 @@
--- Each arm of the match is one case of `isExponentLetter`.
+-- Each arm of the match is one case of `is_exponent_letter`.
 use mathlib.Core.Logic.{⊎_elim, inl, inr}
 use borrow.Author.Tests.{ne_eqb}
 use Rattle.numbers.specs.Grammar.{is_exponent_letter}

@@ -1,4 +1,4 @@
--- The three comparisons are the three words of `isWord`, in its order.
+-- The three comparisons are the three words of `is_word`, in its order.
 use mathlib.Core.Path.{sym, ◌∙◌}
 use Rattle.numbers.specs.Grammar.{is_word}
 use Rattle.numbers.proofs.reading.is_word.Goals as goal

@@ -1,4 +1,4 @@
--- The tests are those of `withinReach`; where they pass no number was capped, so that the value is of the decimal's own two numbers.
+-- The tests are those of `within_reach`; where they pass no number was capped, so that the value is of the decimal's own two numbers.
 use mathlib.Core.Path.{sym, ap, ◌∙◌}
 use Prim.Native.Nat.{ℕ}
 use native.Mathlib.Omega.{arith}

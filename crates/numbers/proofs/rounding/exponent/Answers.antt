@@ -1,4 +1,4 @@
--- The code tests the exponent's field as `exponentAt` does.
+-- The code tests the exponent's field as `exponent_at` does.
 use mathlib.Core.Path.{sym, ap}
 use Prim.Native.Nat.{◌/◌, ◌%◌, ◌^◌}
 use Rattle.numbers.specs.Bits.{exponent_at}

@@ -1,4 +1,4 @@
--- The code tests the exponent's field as `significandAt` does.
+-- The code tests the exponent's field as `significand_at` does.
 use mathlib.Core.Path.{sym}
 use Prim.Native.Nat.{◌/◌, ◌%◌, ◌^◌}
 use native.Mathlib.Omega.{arith}

@@ -1,4 +1,4 @@
--- The furthest of the required columns goes on to the optional ones, as in `furthestOf`.
+-- The furthest of the required columns goes on to the optional ones, as in `furthest_of`.
 use mathlib.Core.Path.{ap, ◌∙◌}
 use mathlib.Core.List.{List}
 use Prim.Native.Nat.{ℕ}

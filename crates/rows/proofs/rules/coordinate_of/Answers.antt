@@ -1,4 +1,4 @@
--- Each arm is one case of `coordinateOf`.
+-- Each arm is one case of `coordinate_of`.
 use Rattle.rows.proofs.rules.coordinate_of.Goals as goal
 
 pub returns-in-OutsideGrammar : goal.returns-in-OutsideGrammar

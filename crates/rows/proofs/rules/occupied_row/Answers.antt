@@ -1,4 +1,4 @@
--- Each arm is one case of `byOccupancy`, and goes on to step 7 or is refused.
+-- Each arm is one case of `by_occupancy`, and goes on to step 7 or is refused.
 use mathlib.Core.Path.{sym, ap, ◌∙◌}
 use Rattle.rows.specs.declared.fields.Measure.{Measure}
 use Rattle.rows.specs.declared.fields.Measure.TheVariants.{Given}

@@ -1,4 +1,4 @@
--- Each arm is one case of `byReach`; a whole row goes on to step 4.
+-- Each arm is one case of `by_reach`; a whole row goes on to step 4.
 use mathlib.Core.Path.{sym, ap, ◌∙◌}
 use Rattle.rows.specs.declared.fields.Reach.{Reach}
 use Rattle.rows.specs.Rules.{reached, by_reach, row_of}

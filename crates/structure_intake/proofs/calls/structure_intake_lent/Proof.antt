@@ -1,5 +1,5 @@
 -- The walk of the MIR knows of the four callees only that each meets its contract. It keeps an array of names. `call_into` is lent the array, and gets text, the two outputs and the ten slices as they were passed, so what it says of the status and of the last values is said here too, with the names for the chains'.
--- `store_names` is lent the array as it came back, and gets the chains and the count that `renewed` gives. What a call leaves in the names, and is stored into the chains as far as that count, is what it leaves in the chains (`call-stored`).
+-- `store_names` is lent the array as it came back, and gets the chains and the count that `renewed` gives. What a call leaves in the names, and is stored into the chains as far as that count, is what it leaves in the chains (`call_stored`).
 use mathlib.Core.Path.{◌≡◌, refl, sym, ap, subst}
 use Prim.Native.Nat.{ℕ, ◌<◌, ◌^◌}
 use mathlib.Core.List.{List, [], ◌∷◌}
