@@ -1,29 +1,13 @@
 -- The lines leave what closing then answers and finishes, in slices of the same lengths; the chains are cleared by its answer.
--- the slices at entry
 use mathlib.Core.Path.{refl, ap, ◌∙◌}
+use mathlib.Core.List.{List}
 use Prim.Native.Nat.{ℕ}
 use Rattle.field_slices.specs.Clearing.{cleared}
-use Rattle.model.specs.Lent.{Lent}
-use Rattle.finishing.proofs.GivenBack.{given_back}
+use Rattle.model.specs.Lent.{Lent, lent_of}
 use Rattle.readings.proofs.ReadWhole.{read_whole}
 use Rattle.mmcif.specs.Acts.{acts_of}
 use Rattle.reader.proofs.RowsAreSound.{acts_are_sound}
 use Rattle.reader.proofs.reading.read_by_names.Goals as goal
-
-abbrev entry : goal.Start → Lent
-entry s = record {
-  chains = s.args.chains.now;
-  residue_keys = s.args.residue-keys.now;
-  residue_names = s.args.residue-names.now;
-  residue_codes = s.args.residue-codes.now;
-  residue_categories = s.args.residue-categories.now;
-  residue_positions = s.args.residue-positions.now;
-  atom_keys = s.args.atom-keys.now;
-  atom_names = s.args.atom-names.now;
-  elements = s.args.elements.now;
-  positions = s.args.positions.now;
-  occupancies = s.args.occupancies.now;
-}
 
 pub returns : goal.returns
 returns c =
@@ -31,10 +15,14 @@ returns c =
     let h = c.halted_early-early in
     let m = c.room_of-room in
     let k = c.close-answer in
+    let n = k.new in
     let a = c.args in
-    let names = c.read_lines-standing.new.residue_keys in
-    let whole =
-    read_whole a.text.now (acts_of a.settings a.text.now) (acts_are_sound a.settings a.text.now) (entry c) _ _ m.result h.result l.result _
-    (m.ensures a.chains.now refl) h.ensures l.ensures refl refl (k.ensures names) in
+    let names = c.read_lines-standing.new.chains in
+    let entry : Lent = lent_of a.chains.now a.residue_keys.now a.residue_names.now a.residue_codes.now a.residue_categories.now a.residue_positions.now
+        a.atom_keys.now a.atom_names.now a.elements.now a.positions.now a.occupancies.now in
+    let after : List ℕ → Lent = λ chains. lent_of chains n.residue_keys n.residue_names n.residue_codes n.residue_categories n.residue_positions
+        n.atom_keys n.atom_names n.elements n.positions n.occupancies in
+    let whole = read_whole a.text.now (acts_of a.settings a.text.now) (acts_are_sound a.settings a.text.now) entry _ _ m.result h.result l.result _
+        (m.ensures a.chains.now refl) h.ensures l.ensures refl refl (k.ensures names) in
     let chains = c.clear_u64_from.ensures ∙ ap (λ (n : ℕ). cleared 0 n names) c.chains_left.ensures in
-    (whole.0, ap (given_back k.new) chains ∙ whole.1)
+    (whole.0, ap after chains ∙ whole.1)
