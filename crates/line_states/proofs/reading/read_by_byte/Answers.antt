@@ -1,10 +1,9 @@
 -- There is no token where the line has no byte but blanks, or is a comment; any byte that is no quote begins the first one.
 use mathlib.Core.Path.{◌≡◌, sym, ◌∙◌}
-use mathlib.Core.List.{◌∷◌}
-use mathlib.Core.Logic.{inl, inr}
-use Prim.Native.Nat.{suc}
+use mathlib.Core.List.{List, ◌∷◌}
+use Prim.Native.Nat.{ℕ, suc, ◌<◌}
 use native.Mathlib.Omega.{arith}
-use lib.ListN.{get_or, drop, drop_of_length-le}
+use lib.ListN.{length, get_or, drop, drop_of_length-le}
 use lib.Seq.{drop-cons}
 use Rattle.tokens.specs.Trim.{trim_start}
 use Rattle.line_states.proofs.FirstByte.{no_byte, comment, first_begins}
@@ -12,13 +11,8 @@ use Rattle.line_states.proofs.FirstToken.{nothing_moves, other_moves}
 use Rattle.line_states.proofs.reading.read_by_byte.Goals as goal
 
 -- what is left of the line begins with the byte
-begins :
-    (c : goal.After-shared_slice_known-2-1) → let line = c.args.line.now in let i = c.trim_start-i.result in
-    trim_start line ≡ get_or line i 0 ∷ drop (suc i) line
-begins c =
-    let line = c.args.line.now in
-    let i = c.trim_start-i in
-    sym i.ensures.1 ∙ drop-cons line i.result 0 (omega arith)
+begins : (line : List ℕ) (i : ℕ) → i < length line → drop i line ≡ trim_start line → trim_start line ≡ get_or line i 0 ∷ drop (suc i) line
+begins line i h e = sym e ∙ drop-cons line i 0 h
 
 pub returns-then-line-i : goal.returns-then-line-i
 returns-then-line-i c =
@@ -33,7 +27,7 @@ returns-in-35 c =
     let line = a.line.now in
     let i = c.trim_start-i.result in
     c.moved_to-in-35.ensures
-    ∙ sym (nothing_moves a.heads line (comment line (get_or line i 0) (drop (suc i) line) (begins c) c.in-35.is))
+    ∙ sym (nothing_moves a.heads line (comment line (get_or line i 0) (drop (suc i) line) (begins line i (omega arith) c.trim_start-i.ensures.1) c.in-35.is))
 
 pub returns-in-95 : goal.returns-in-95
 returns-in-95 c = c.read_by_token.ensures
@@ -44,8 +38,7 @@ returns-in_default c =
     let line = a.line.now in
     let i = c.trim_start-i.result in
     let b = get_or line i 0 in
-    let n = c.in_default.in_default-own.rest in
     c.other_in.ensures
     ∙ sym (other_moves a.heads line b
-    (first_begins line b (drop (suc i) line) (begins c) n.0.1 (λ e. n.1 (inl e)) (λ e. n.1 (inr (inl e))))
-    (λ e. n.1 (inr (inr (inl e)))) (λ e. n.1 (inr (inr (inr e)))))
+    (first_begins line b (drop (suc i) line) (begins line i (omega arith) c.trim_start-i.ensures.1) (λ e. omega arith) (λ e. grind arith) (λ e. grind arith))
+    (λ e. grind arith) (λ e. grind arith))
