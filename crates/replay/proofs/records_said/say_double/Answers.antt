@@ -12,4 +12,4 @@ equal_to_itself (inf s) e = tt
 equal_to_itself (fin s m d) e = tt
 
 pub float_to_bits-x : goal.float_to_bits-x
-float_to_bits-x c = equal_to_itself _ c.if-x.true
+float_to_bits-x g c = equal_to_itself _ c.if-x.true
