@@ -2,9 +2,9 @@
 #![tactic(auto)]
 
 mod chain;
-mod names;
+mod chain_names;
 mod places;
 
 pub use chain::Chain;
-pub use names::{Names, kept, no_names, store_names, take_names};
+pub use chain_names::{Names, kept, no_names, store_names, take_names};
 pub use places::{clear_from, place_in};

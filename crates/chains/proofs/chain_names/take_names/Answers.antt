@@ -3,7 +3,7 @@ use Rattle.std.proofs.Common.{◌≡◌, ◌<◌, length, ap, sym, ◌∙◌, ar
 use lib.ListN.{set, get_or}
 use Rattle.chains.specs.Names.{chain_of}
 use Rattle.chains.proofs.NameLaws.{taking, taking_none, taking_turn, taking_all}
-use Rattle.chains.proofs.names.take_names.Goals as goal
+use Rattle.chains.proofs.chain_names.take_names.Goals as goal
 
 pub loop-i-init : goal.loop-i-init
 loop-i-init c = (omega arith, sym (taking_none c.args.chains.now c.args.names.now))
