@@ -51,12 +51,12 @@ names_at_places l = map_from (λ p. get_or l p 0) (λ i. i) 0 (length l) ∙ all
 
 -- ---- the chains of rows in runs
 module _ {S : Type 0} (site : S → Site) (place : S → ℕ) (name : ℕ → ℕ) (named : (s : S) → (site s).chain ≡ name (place s)) where
-  met_after : (q : List ℕ) (x : ℕ) (l : List S) → differ ((q ++ name x ∷ []) ++ map name (runs_after x (map place l))) ≡ true
+  met_after_lem : (q : List ℕ) (x : ℕ) (l : List S) → differ ((q ++ name x ∷ []) ++ map name (runs_after x (map place l))) ≡ true
       → met_after (q ++ name x ∷ []) (map site l) ≡ (q ++ name x ∷ []) ++ map name (runs_after x (map place l))
   unfolding met_after runs_after
-  met_after q x [] d = sym (append-nil (q ++ name x ∷ []))
-  met_after q x (s ∷ l) d =
-      ap (λ (c : ℕ). met_after (with_chain c p) (map site l)) (named s) ∙ go (eqb x (place s)) refl d (met_after q x l) (met_after p (place s) l)
+  met_after_lem q x [] d = sym (append-nil (q ++ name x ∷ []))
+  met_after_lem q x (s ∷ l) d =
+      ap (λ (c : ℕ). met_after (with_chain c p) (map site l)) (named s) ∙ go (eqb x (place s)) refl d (met_after_lem q x l) (met_after_lem p (place s) l)
     where
       p : List ℕ
       p = q ++ name x ∷ []
@@ -87,4 +87,4 @@ module _ {S : Type 0} (site : S → Site) (place : S → ℕ) (name : ℕ → �
   pub met_in_runs : (l : List S) → differ (map name (runs_of (map place l))) ≡ true → met_after [] (map site l) ≡ map name (runs_of (map place l))
   unfolding met_after with_chain
   met_in_runs [] d = refl
-  met_in_runs (s ∷ l) d = ap (λ (c : ℕ). met_after (c ∷ []) (map site l)) (named s) ∙ met_after [] (place s) l d
+  met_in_runs (s ∷ l) d = ap (λ (c : ℕ). met_after (c ∷ []) (map site l)) (named s) ∙ met_after_lem [] (place s) l d

@@ -115,10 +115,10 @@ pub loop_headers : every is_header (drop 1 atom_headers) ≡ true
 unfolding all_plain same_bytes starts_with
 loop_headers = refl
 
-pub list_heads : with_headers (no_heads Header) (drop 1 polymer_headers) ≡ list_heads
+pub list_heads_lem : with_headers (no_heads Header) (drop 1 polymer_headers) ≡ list_heads
 unfolding item_names place_in same_bytes starts_with
-list_heads = refl
+list_heads_lem = refl
 
-pub loop_heads : with_headers (no_heads Header) (drop 1 atom_headers) ≡ loop_heads
+pub loop_heads_lem : with_headers (no_heads Header) (drop 1 atom_headers) ≡ loop_heads
 unfolding item_names place_in same_bytes starts_with
-loop_heads = refl
+loop_heads_lem = refl

@@ -37,7 +37,7 @@ use Rattle.row_texts.specs.Fields.{group_text}
 use Rattle.writer.specs.Text.{atom_row_of, polymer_row_of, opening, closing, polymer_headers, atom_headers}
 use Rattle.return_trip.proofs.NamesAgain.{NameSo}
 use Rattle.return_trip.proofs.FoldAgain.{site_in, taken_of}
-use Rattle.return_trip.proofs.FixedLines.{title_moves, comment_moves, loop_moves, list_heads, list_rows, loop_heads, loop_rows, is_header, header_word, header_moves, with_headers, list_headers, loop_headers, list_heads, loop_heads}
+use Rattle.return_trip.proofs.FixedLines.{title_moves, comment_moves, loop_moves, list_heads, list_rows, loop_heads, loop_rows, is_header, header_word, header_moves, with_headers, list_headers, loop_headers, list_heads_lem, loop_heads_lem}
 use Rattle.return_trip.proofs.ListRowsAgain.{list_row_is_short, list_row_moves}
 use Rattle.return_trip.proofs.RowsAgain.{RowSo, row_is_short, row_moves, row_again}
 use Rattle.return_trip.proofs.TextLines.{polymer_line, polymer_part, atom_lines}
@@ -110,12 +110,12 @@ module _ (settings : Settings) where
   list_headers_give : (heads : Heads) → Give settings heads polymer_headers list_heads []
   list_headers_give heads =
       line_passed (omega arith) (loop_moves heads)
-      (subst (λ (h : Heads). Give settings (no_heads Header) (drop 1 polymer_headers) h []) list_heads (headers_give (no_heads Header) (drop 1 polymer_headers) list_headers refl (omega arith)))
+      (subst (λ (h : Heads). Give settings (no_heads Header) (drop 1 polymer_headers) h []) list_heads_lem (headers_give (no_heads Header) (drop 1 polymer_headers) list_headers refl (omega arith)))
 
   pub loop_headers_give : (heads : Heads) → Give settings heads atom_headers loop_heads []
   loop_headers_give heads =
       line_passed (omega arith) (loop_moves heads)
-      (subst (λ (h : Heads). Give settings (no_heads Header) (drop 1 atom_headers) h []) loop_heads (headers_give (no_heads Header) (drop 1 atom_headers) loop_headers refl (omega arith)))
+      (subst (λ (h : Heads). Give settings (no_heads Header) (drop 1 atom_headers) h []) loop_heads_lem (headers_give (no_heads Header) (drop 1 atom_headers) loop_headers refl (omega arith)))
 
   -- ---- the polymer list
   module _ (m : Model) where
