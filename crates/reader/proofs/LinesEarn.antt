@@ -174,8 +174,8 @@ module _ (settings : Settings) (room : Room) (lines : List (List ℕ)) (why : Re
 abbrev pub OfLine : ℕ → Type 0
 OfLine number = (3 ≤ number) × (number ≤ 10)
 
-pub of_line : {settings : Settings} {room : Room} {number : ℕ} {heads : Heads} {st : State} {line : List ℕ} {why : Refusal} → Earns settings room number heads st line why → OfLine (number_of why.reason)
-of_line (too_long h) = (omega arith, omega arith)
-of_line (headers h e) = (omega arith, omega arith)
-of_line {settings} (row_refused y r e) = let n = row_numbers_lem settings _ ((rows_refused settings _ y).0 e) in (omega (arith, n.0), omega (arith, n.1))
-of_line (no_room s lack r e l) = (omega arith, omega arith)
+pub of_line_lem : {settings : Settings} {room : Room} {number : ℕ} {heads : Heads} {st : State} {line : List ℕ} {why : Refusal} → Earns settings room number heads st line why → OfLine (number_of why.reason)
+of_line_lem (too_long h) = (omega arith, omega arith)
+of_line_lem (headers h e) = (omega arith, omega arith)
+of_line_lem {settings} (row_refused y r e) = let n = row_numbers_lem settings _ ((rows_refused settings _ y).0 e) in (omega (arith, n.0), omega (arith, n.1))
+of_line_lem (no_room s lack r e l) = (omega arith, omega arith)

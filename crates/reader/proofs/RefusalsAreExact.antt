@@ -26,7 +26,7 @@ use Rattle.readings.proofs.RefusalsAreExact as exact
 use Rattle.mmcif.specs.Acts.{acts_of}
 use Rattle.reader.specs.Exact.{FirstToEarn, ReadInto}
 use Rattle.reader.specs.Reading.{read_of}
-use Rattle.reader.proofs.LinesEarn.{first_to_earn, acts_for_themselves, of_line}
+use Rattle.reader.proofs.LinesEarn.{first_to_earn, acts_for_themselves, of_line_lem}
 
 module _ (settings : Settings) (room : Room) (text : List ℕ) where
   abbrev acts : List Asked
@@ -82,5 +82,5 @@ module _ (settings : Settings) (room : Room) (text : List ℕ) where
       go : (why : Refusal) → RefusedSo why → number_of why.reason ≤ 11
       go why (long h) = omega arith
       go why (outside h o) = omega arith
-      go why (of_line a f) = omega (arith, of_line f.earns)
+      go why (of_line a f) = omega (arith, of_line_lem f.earns)
       go why (unknown i u) = omega arith

@@ -34,8 +34,8 @@ of_earned : {room : Room} {st : State} {a : Asked} {why : Refusal} → RefusesFo
 of_earned so (refuses y e) = subst RefusesForItself e so
 of_earned so (lacks_room s kind e l) = (omega arith, λ q. omega arith)
 
-pub of_act : {room : Room} {acts : List Asked} {why : Refusal} → AllForThemselves acts → FirstActToEarn room acts why → OfAct (number_of why.reason)
-of_act so f = of_earned (all_after (λ (a : Asked). RefusesForItself a.act) f.before _ (subst AllForThemselves f.among so)).0 f.earns
+pub of_act_lem : {room : Room} {acts : List Asked} {why : Refusal} → AllForThemselves acts → FirstActToEarn room acts why → OfAct (number_of why.reason)
+of_act_lem so f = of_earned (all_after (λ (a : Asked). RefusesForItself a.act) f.before _ (subst AllForThemselves f.among so)).0 f.earns
 
 -- ---- how a reading ends
 pub data Ends (room : Room) (text : List ℕ) (acts : List Asked) : Reading → Type 0 where
@@ -117,22 +117,22 @@ module _ (room : Room) (text : List ℕ) (acts : List Asked) where
       where
         only : Ends room text acts (refused (at 0 TextTooLong)) → largest < length text
         only (long h) = h
-        only (of_act a f) = absurd (omega (arith, (of_act so f).0))
+        only (of_act a f) = absurd (omega (arith, (of_act_lem so f).0))
 
     -- ---- 2
     pub outside_domain : (line byte : ℕ) → (reading_of room text acts ≡ refused (at line (OutsideDomain byte))) ↔ ((length text ≤ largest) × (outside_of text ≡ At line byte))
-    outside_domain line byte = (λ e. only (ends_at _ e), λ h. ends_so _ (outside h.0 h.1))
+    outside_domain line byte = (λ e. only line byte (ends_at _ e), λ h. ends_so _ (outside h.0 h.1))
       where
-        only : Ends room text acts (refused (at line (OutsideDomain byte))) → (length text ≤ largest) × (outside_of text ≡ At line byte)
-        only (outside h o) = (h, o)
-        only (of_act a f) = absurd (omega (arith, (of_act so f).0))
+        only : (line byte : ℕ) → Ends room text acts (refused (at line (OutsideDomain byte))) → (length text ≤ largest) × (outside_of text ≡ At line byte)
+        only line byte (outside h o) = (h, o)
+        only line byte (of_act a f) = absurd (omega (arith, (of_act_lem so f).0))
 
     -- ---- 11
     pub unknown_residue : (place : ℕ) → (reading_of room text acts ≡ refused (at 0 (UnknownResidue place))) ↔ ((st : State) × DoneInto room text acts st × (unknown_in st.residues ≡ some place))
     unknown_residue place = (λ e. only (ends_at _ e), λ h. ends_so _ (unknown h.1 h.2))
       where
         only : Ends room text acts (refused (at 0 (UnknownResidue place))) → (st : State) × DoneInto room text acts st × (unknown_in st.residues ≡ some place)
-        only (of_act a f) = absurd ((of_act so f).1 refl)
+        only (of_act a f) = absurd ((of_act_lem so f).1 refl)
         only (unknown {st} i u) = (st, i, u)
 
     -- ---- what is read to its end leaves a state
@@ -142,6 +142,6 @@ module _ (room : Room) (text : List ℕ) (acts : List Asked) where
         go : (r : Reading) → Ends room text acts r → ToTheEnd r → (st : State) × DoneInto room text acts st
         go r (long h) end = absurd (omega arith)
         go r (outside h e) end = absurd (omega arith)
-        go r (of_act a f) end = absurd ((of_act so f).1 end)
+        go r (of_act a f) end = absurd ((of_act_lem so f).1 end)
         go r (unknown {st} i u) end = (st, i)
         go r (whole {st} i u) end = (st, i)

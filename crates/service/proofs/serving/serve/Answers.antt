@@ -1,87 +1,58 @@
 -- A text that is not read is refused as the reader says; one that is read leaves the model in the records, from which it is written.
--- the slices at entry
 use mathlib.Core.Path.{sym, ◌∙◌}
 use Rattle.model.specs.Lent.{Lent, lent_of}
 use Rattle.readings.proofs.SlicesOfOneSize.{same_holding}
 use Rattle.service.proofs.ServingLaws.{read_well, serve_unread, serve_read}
 use Rattle.service.proofs.serving.serve.Goals as goal
 
-abbrev entry : goal.Start → Lent
-entry s =
-    lent_of
-    s.args.chains.now
-    s.args.residue-keys.now
-    s.args.residue-names.now
-    s.args.residue-codes.now
-    s.args.residue-categories.now
-    s.args.residue-positions.now
-    s.args.atom-keys.now
-    s.args.atom-names.now
-    s.args.elements.now
-    s.args.positions.now
-    s.args.occupancies.now
-
--- the slices as the reading leaves them
-abbrev left : goal.After-read_by_names-answer → Lent
-left p =
-    let l = p.read_by_names-answer.new.chains in
-    lent_of
-    l
-    p.read_by_names-answer.new.residue_keys
-    p.read_by_names-answer.new.residue_names
-    p.read_by_names-answer.new.residue_codes
-    p.read_by_names-answer.new.residue_categories
-    p.read_by_names-answer.new.residue_positions
-    p.read_by_names-answer.new.atom_keys
-    p.read_by_names-answer.new.atom_names
-    p.read_by_names-answer.new.elements
-    p.read_by_names-answer.new.positions
-    p.read_by_names-answer.new.occupancies
-
--- and as the writing leaves them
-abbrev written : goal.After-write_out → Lent
-written p =
-    let l = p.write_out.new.chains in
-    lent_of
-    l
-    p.write_out.new.residue_keys
-    p.write_out.new.residue_names
-    p.write_out.new.residue_codes
-    p.write_out.new.residue_categories
-    p.write_out.new.residue_positions
-    p.write_out.new.atom_keys
-    p.write_out.new.atom_names
-    p.write_out.new.elements
-    p.write_out.new.positions
-    p.write_out.new.occupancies
-
 pub write_out-requires : goal.write_out-requires
 write_out-requires c =
-    let answer = c.answer-in-Read-1.given in
+    let a = c.args in
     let r = c.read_by_names-answer in
-    read_well c.args.settings (entry c) c.args.text.now c.in-Read.counts (left c) (sym c.in-Read.is ∙ r.ensures.0) r.ensures.1
+    let entry : Lent = lent_of a.chains.now a.residue_keys.now a.residue_names.now a.residue_codes.now a.residue_categories.now a.residue_positions.now
+        a.atom_keys.now a.atom_names.now a.elements.now a.positions.now a.occupancies.now in
+    let l = r.new in
+    let left : Lent = lent_of l.chains l.residue_keys l.residue_names l.residue_codes l.residue_categories l.residue_positions
+        l.atom_keys l.atom_names l.elements l.positions l.occupancies in
+    read_well a.settings entry a.text.now c.in-Read.counts left (sym c.in-Read.is ∙ r.ensures.0) r.ensures.1
 
 pub returns-in-Refused : goal.returns-in-Refused
 returns-in-Refused c =
+    let a = c.args in
     let r = c.read_by_names-answer in
-    serve_unread c.args.settings (entry c) c.args.text.now c.args.out.now c.in-Refused.why (left c) (sym c.in-Refused.is ∙ r.ensures.0) r.ensures.1
+    let entry : Lent = lent_of a.chains.now a.residue_keys.now a.residue_names.now a.residue_codes.now a.residue_categories.now a.residue_positions.now
+        a.atom_keys.now a.atom_names.now a.elements.now a.positions.now a.occupancies.now in
+    let l = r.new in
+    let left : Lent = lent_of l.chains l.residue_keys l.residue_names l.residue_codes l.residue_categories l.residue_positions
+        l.atom_keys l.atom_names l.elements l.positions l.occupancies in
+    serve_unread a.settings entry a.text.now a.out.now c.in-Refused.why left (sym c.in-Refused.is ∙ r.ensures.0) r.ensures.1
 
 pub returns-in-Read : goal.returns-in-Read
 returns-in-Read c =
+    let a = c.args in
     let r = c.read_by_names-answer in
-    serve_read c.args.settings (entry c) c.args.text.now c.args.out.now c.in-Read.counts (left c) (written c) c.write_out.result c.write_out.new.out (sym c.in-Read.is ∙ r.ensures.0) r.ensures.1
-    (same_holding (entry c) (left c)
+    let same = r.auto in
+    let entry : Lent = lent_of a.chains.now a.residue_keys.now a.residue_names.now a.residue_codes.now a.residue_categories.now a.residue_positions.now
+        a.atom_keys.now a.atom_names.now a.elements.now a.positions.now a.occupancies.now in
+    let l = r.new in
+    let left : Lent = lent_of l.chains l.residue_keys l.residue_names l.residue_codes l.residue_categories l.residue_positions
+        l.atom_keys l.atom_names l.elements l.positions l.occupancies in
+    let w = c.write_out.new in
+    let written : Lent = lent_of w.chains w.residue_keys w.residue_names w.residue_codes w.residue_categories w.residue_positions
+        w.atom_keys w.atom_names w.elements w.positions w.occupancies in
+    serve_read a.settings entry a.text.now a.out.now c.in-Read.counts left written c.write_out.result w.out (sym c.in-Read.is ∙ r.ensures.0) r.ensures.1
+    (same_holding entry left
     (record {
-      chains = c.chains-1.given;
-      residue_keys = c.residue_keys-1.given;
-      residue_names = c.residue_names-1.given;
-      residue_marks = c.residue_categories-1.given;
-      atom_keys = c.atom_keys-1.given;
-      atom_names = c.atom_names-1.given;
-      elements = c.elements-1.given;
-      positions = c.positions-1.given;
-      occupancies = c.occupancies-1.given;
+      chains = same.chains;
+      residue_keys = same.residue_keys;
+      residue_names = same.residue_names;
+      residue_marks = same.residue_categories;
+      atom_keys = same.atom_keys;
+      atom_names = same.atom_names;
+      elements = same.elements;
+      positions = same.positions;
+      occupancies = same.occupancies;
     })
-    c.residue_codes-1.given
-    c.residue_positions-1.given)
+    same.residue_codes
+    same.residue_positions)
     c.write_out.ensures

@@ -1,45 +1,31 @@
 -- What the writer answers is served; on its refusal all records are cleared.
--- the slices at entry
-use mathlib.Core.Path.{◌≡◌, ◌∙◌, ap}
-use mathlib.Core.Bool.{true}
-use Rattle.building.specs.Holds.{sizes_of}
+use mathlib.Core.Path.{ap, ◌∙◌}
+use mathlib.Core.List.{List}
+use Prim.Native.Nat.{ℕ}
 use Rattle.model.specs.Lent.{Lent, lent_of}
 use Rattle.model.specs.WellFormed.{well_formed_in}
-use Rattle.model.specs.declared.room.Room.{Room}
 use Rattle.finishing.proofs.ClearingLaws.{none_left}
-use Rattle.finishing.proofs.GivenBack.{given_back}
 use Rattle.service.proofs.ServingLaws.{put_out, put_nothing}
 use Rattle.service.proofs.serving.write_out.Goals as goal
 
-abbrev entry : goal.Start → Lent
-entry s =
-    lent_of
-    s.args.chains.now
-    s.args.residue-keys.now
-    s.args.residue-names.now
-    s.args.residue-codes.now
-    s.args.residue-categories.now
-    s.args.residue-positions.now
-    s.args.atom-keys.now
-    s.args.atom-names.now
-    s.args.elements.now
-    s.args.positions.now
-    s.args.occupancies.now
-
--- what was read is well formed
-well : (s : goal.Start) {sizes : Room} → sizes ≡ sizes_of s.args.counts → well_formed_in (entry s) sizes ≡ true
-well s e = ap (well_formed_in (entry s)) e ∙ s.requires
-
 pub returns-in-Written : goal.returns-in-Written
 returns-in-Written c =
+    let a = c.args in
     let n = c.sizes_of in
-    let w = c.write_well_formed-written in
-    put_out (entry c) c.args.counts c.args.out.now _ n.ensures _ _ (w.ensures (well c n.ensures)) _ c.in-Written.is
+    let entry : Lent = lent_of a.chains.now a.residue_keys.now a.residue_names.now a.residue_codes.now a.residue_categories.now a.residue_positions.now
+        a.atom_keys.now a.atom_names.now a.elements.now a.positions.now a.occupancies.now in
+    let well = ap (well_formed_in entry) n.ensures ∙ c.requires in
+    put_out entry a.counts a.out.now _ n.ensures _ _ (c.write_well_formed-written.ensures well) _ c.in-Written.is
 
 pub returns-in-Refused : goal.returns-in-Refused
 returns-in-Refused c =
+    let a = c.args in
     let n = c.sizes_of in
-    let w = c.write_well_formed-written in
-    put_nothing (entry c) c.args.counts c.args.out.now _ n.ensures _ _ (w.ensures (well c n.ensures)) _ _ c.in-Refused.is
-    (ap (given_back c.clear_records.new) c.clear_u64_from.ensures
-    ∙ none_left (entry c) (given_back c.clear_records.new) c.no_records.ensures (c.clear_records.ensures c.args.chains.now))
+    let k = c.clear_records.new in
+    let entry : Lent = lent_of a.chains.now a.residue_keys.now a.residue_names.now a.residue_codes.now a.residue_categories.now a.residue_positions.now
+        a.atom_keys.now a.atom_names.now a.elements.now a.positions.now a.occupancies.now in
+    let after : List ℕ → Lent = λ chains. lent_of chains k.residue_keys k.residue_names k.residue_codes k.residue_categories k.residue_positions
+        k.atom_keys k.atom_names k.elements k.positions k.occupancies in
+    let well = ap (well_formed_in entry) n.ensures ∙ c.requires in
+    put_nothing entry a.counts a.out.now _ n.ensures _ _ (c.write_well_formed-written.ensures well) _ _ c.in-Refused.is
+    (ap after c.clear_u64_from.ensures ∙ none_left entry after c.no_records.ensures (c.clear_records.ensures a.chains.now))
