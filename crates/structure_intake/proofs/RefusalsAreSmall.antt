@@ -40,7 +40,7 @@ use Rattle.readings.specs.Reading.{refused}
 use Rattle.reader.specs.Reading.{read_of}
 use Rattle.reader.proofs.RefusalsAreExact.{RefusedSo, long, outside, of_line, unknown, refused_so}
 use Rattle.reader.proofs.ReadByTheRows.{model_of_rows}
-use Rattle.reader.proofs.LinesEarn.{first_is_numbered, of_line}
+use Rattle.reader.proofs.LinesEarn.{first_is_numbered, of_line_lem}
 use Rattle.readings.proofs.SlicesOfOneSize.{room_within}
 
 abbrev Small : Refusal → Type 0
@@ -135,7 +135,7 @@ module _ (settings : Settings) (l : Lent) (text : List ℕ) where
       go why (long k) = (omega arith, omega arith)
       go why (outside {line} {byte} k o) = let (a, b) = outside_within 1 line byte text o h in (omega arith, omega arith)
       go why (of_line a f) =
-          let (low, high) = of_line f.earns in (
+          let (low, high) = of_line_lem f.earns in (
             omega (arith, a.short, first_is_numbered settings room (lines_of text) why f, ap length f.among ∙ length-append f.before (f.line ∷ f.after), lines_fit text),
             omega (arith, line_detail why.reason low high),
           )
