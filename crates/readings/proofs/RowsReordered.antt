@@ -43,10 +43,10 @@ rows_among : List Act → List Taken
 rows_among [] = []
 rows_among (act ∷ acts) = row_in act ++ rows_among acts
 
-rows_among : (acts : List Asked) → rows_in acts ≡ rows_among (acts_in acts)
+rows_among_lem : (acts : List Asked) → rows_in acts ≡ rows_among (acts_in acts)
 unfolding rows_in rows_among
-rows_among [] = refl
-rows_among (a ∷ acts) = ap (λ (l : List Taken). row_in a.act ++ l) (rows_among acts)
+rows_among_lem [] = refl
+rows_among_lem (a ∷ acts) = ap (λ (l : List Taken). row_in a.act ++ l) (rows_among_lem acts)
 
 among_append : (a b : List Act) → rows_among (a ++ b) ≡ rows_among a ++ rows_among b
 unfolding rows_among
@@ -99,10 +99,10 @@ module _ (a b : List Asked) (d : ActsReordered a b) where
   parts acts = among_append d.before (acts ++ d.after) ∙ ap (λ (l : List Taken). rows_among d.before ++ l) (among_append acts d.after)
 
   rows_are : rows_in a ≡ rows_among d.before ++ (rows_among d.part ++ rows_among d.after)
-  rows_are = rows_among a ∙ ap rows_among d.one ∙ parts d.part
+  rows_are = rows_among_lem a ∙ ap rows_among d.one ∙ parts d.part
 
   other_rows_are : rows_in b ≡ rows_among d.before ++ (rows_among d.reordered ++ rows_among d.after)
-  other_rows_are = rows_among b ∙ ap rows_among d.other ∙ parts d.reordered
+  other_rows_are = rows_among_lem b ∙ ap rows_among d.other ∙ parts d.reordered
 
   -- no act of the other refuses
   pub other_goes_on : AllGoOn a → AllGoOn b
