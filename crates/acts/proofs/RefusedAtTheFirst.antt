@@ -2,7 +2,6 @@
 use mathlib.Core.Path.{◌≡◌, refl, sym, ap, ◌∙◌, subst}
 use mathlib.Core.Logic.{◌↔◌}
 use mathlib.Core.List.{List, [], ◌∷◌, ◌++◌}
-use Rattle.refusals.specs.Reasons.{at}
 use Rattle.refusals.specs.declared.reasons.Refusal.{Refusal}
 use Rattle.rows.specs.declared.rules.Site.{Site}
 use Rattle.model.specs.Fold.{State, start, step}

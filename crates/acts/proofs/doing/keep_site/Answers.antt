@@ -1,6 +1,4 @@
 -- What lacks the room is refused, and else the slices hold the model with the site; the site's numbers fit their types.
-use mathlib.Core.List.{List}
-use Prim.Native.Nat.{ℕ}
 use native.Mathlib.Omega.{arith}
 use Rattle.building.specs.Holds.{records_of}
 use Rattle.acts.proofs.ActLaws.{put_kept}
