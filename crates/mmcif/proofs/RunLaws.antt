@@ -2,7 +2,7 @@
 use mathlib.Core.Path.{◌≡◌, refl, sym, ap, ◌∙◌, subst}
 use mathlib.Core.Bool.{Bool, true, false, false≢true}
 use mathlib.Core.List.{List}
-use Prim.Native.Nat.{ℕ, suc, ◌-◌, ◌^◌, ◌≤◌, ◌<◌}
+use Prim.Native.Nat.{ℕ, suc, ◌^◌, ◌≤◌, ◌<◌}
 use native.Mathlib.Omega.{arith}
 use lib.ListN.{length, take, set}
 use borrow.Author.Tests.{eqb-true}
@@ -20,7 +20,7 @@ use Rattle.acts.proofs.LengthLaws.{lengths_same, lengths_then}
 use Rattle.mmcif.specs.declared.stages.Stage.{Stage}
 use Rattle.mmcif.specs.declared.stages.Waiting.{Waiting}
 use Rattle.mmcif.specs.declared.stages.Waiting.TheVariants.{Nothing, Row}
-use Rattle.mmcif.specs.Stages.{chain_in, is_waiting, is_of, is_own, left, met, Inside, Between, Before, ReachedBy, Reached, GoesOnTo, PutBy, PutsWaiting, TakesRun, Walks}
+use Rattle.mmcif.specs.Stages.{chain_in, is_waiting, is_of, is_own, left, met, Inside, Between, Before, ReachedBy, Reached, GoesOnTo, PutBy, PutsWaiting, Walks}
 use Rattle.mmcif.proofs.StageLaws.{between, at_between, inside_between, row_put}
 
 -- the row that waits

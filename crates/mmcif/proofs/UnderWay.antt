@@ -1,11 +1,11 @@
 -- Rows under way: from wherever the reading stands, its finish is the target, so that the last row leaves the target itself. Whoever holds the chain list finds the chain of the
 -- row that waits, stores its name there, and has its run taken.
-use mathlib.Core.Path.{◌≡◌, refl, sym, ap, ◌∙◌, subst}
+use mathlib.Core.Path.{◌≡◌, refl, sym, ◌∙◌, subst}
 use mathlib.Core.Bool.{true, false, false≢true}
 use mathlib.Core.List.{List}
 use Prim.Native.Nat.{ℕ, ◌≤◌, ◌<◌}
 use native.Mathlib.Omega.{arith}
-use lib.ListN.{length, take, drop, set, length-set, drop_of_length-le}
+use lib.ListN.{length, take, drop, length-set, drop_of_length-le}
 use lib.Seq.{set-set}
 use Rattle.lines.specs.Lines.{lines_of}
 use Rattle.rows.specs.declared.settings.Settings.{Settings}

@@ -13,7 +13,7 @@ returns-in-Nothing c =
     let a = c.args in
     λ chains.
     let entry : List ℕ → Records
-        = λ l. records_of l a.residue_keys.now a.residue_names.now a.residue_marks.now a.atom_keys.now a.atom_names.now a.elements.now a.positions.now a.occupancies.now in
+    = λ l. records_of l a.residue_keys.now a.residue_names.now a.residue_marks.now a.atom_keys.now a.atom_names.now a.elements.now a.positions.now a.occupancies.now in
     record {
       lengths = record {
         chains = length-set chains a.found (chain_in a.stage.waiting);
@@ -35,9 +35,9 @@ returns-in-Row c =
     let l = c.keep_site.new in
     λ chains.
     let entry : Records
-        = records_of chains a.residue_keys.now a.residue_names.now a.residue_marks.now a.atom_keys.now a.atom_names.now a.elements.now a.positions.now a.occupancies.now in
+    = records_of chains a.residue_keys.now a.residue_names.now a.residue_marks.now a.atom_keys.now a.atom_names.now a.elements.now a.positions.now a.occupancies.now in
     let after : ℕ → Records
-        = λ name. records_of (set chains a.found name) l.residue_keys l.residue_names l.residue_marks l.atom_keys l.atom_names l.elements l.positions l.occupancies in
+    = λ name. records_of (set chains a.found name) l.residue_keys l.residue_names l.residue_marks l.atom_keys l.atom_names l.elements l.positions l.occupancies in
     record {
       lengths = record {
         chains = length-set chains a.found (chain_in a.stage.waiting);

@@ -1,12 +1,11 @@
 -- Row after row while one of the chain waits; where none waits at first, one turn.
 use mathlib.Core.Path.{◌≡◌, refl, sym, ◌∙◌, subst}
-use mathlib.Core.Bool.{Bool, true, false}
+use mathlib.Core.Bool.{Bool, true}
 use mathlib.Core.List.{List, []}
 use Prim.Native.Nat.{ℕ, suc, ◌^◌, ◌<◌}
 use native.Mathlib.Omega.{arith}
 use lib.ListN.{length}
 use Rattle.rows.specs.declared.settings.Settings.{Settings}
-use Rattle.building.specs.Holds.{Records, records_of}
 use Rattle.acts.specs.declared.doing.Standing.{Standing}
 use Rattle.mmcif.specs.declared.stages.Stage.{Stage}
 use Rattle.mmcif.specs.Stages.{chain_in, is_waiting, onward_to, is_own, stage_at, GoesOnTo}
