@@ -17,9 +17,9 @@ returns-in-Refused c =
     let n = c.clear_records.new in
     λ names making s p.
     let l : Lent = lent_of names a.residue_keys.now a.residue_names.now a.residue_codes.now a.residue_categories.now a.residue_positions.now
-        a.atom_keys.now a.atom_names.now a.elements.now a.positions.now a.occupancies.now in
+    a.atom_keys.now a.atom_names.now a.elements.now a.positions.now a.occupancies.now in
     let after : List ℕ → Lent = λ chains. lent_of chains n.residue_keys n.residue_names n.residue_codes n.residue_categories n.residue_positions
-        n.atom_keys n.atom_names n.elements n.positions n.occupancies in
+    n.atom_keys n.atom_names n.elements n.positions n.occupancies in
     let end = refused_stays (room_of l) (records_in l) a.standing _ making c.in-Refused.is s in
     (sym (ap answer_of end), none_left l after c.no_records.ensures (c.clear_records.ensures names) ∙ sym (ap (left_by l) end))
 
@@ -31,10 +31,10 @@ returns-in-Going c =
     let n = f.new in
     λ names making s p.
     let l : Lent = lent_of names a.residue_keys.now a.residue_names.now a.residue_codes.now a.residue_categories.now a.residue_positions.now
-        a.atom_keys.now a.atom_names.now a.elements.now a.positions.now a.occupancies.now in
+    a.atom_keys.now a.atom_names.now a.elements.now a.positions.now a.occupancies.now in
     let gathered : Lent = lent_of names g.residue_keys g.residue_names a.residue_codes.now g.residue_marks a.residue_positions.now
-        g.atom_keys g.atom_names g.elements g.positions g.occupancies in
+    g.atom_keys g.atom_names g.elements g.positions g.occupancies in
     let after : List ℕ → Lent = λ chains. lent_of chains n.residue_keys n.residue_names n.residue_codes n.residue_categories n.residue_positions
-        n.atom_keys n.atom_names n.elements n.positions n.occupancies in
+    n.atom_keys n.atom_names n.elements n.positions n.occupancies in
     let ends = finished_ends l gathered _ a.standing f.result (c.gather.ensures names) refl refl (f.ensures names) c.in-Going.is making s p in
     (c.finished_by.ensures ∙ ends.0, ap (λ (k : ℕ). after (cleared 0 k names)) (finished_leaves f.result _ c.finished_by.ensures) ∙ ends.1)

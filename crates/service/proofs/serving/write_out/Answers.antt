@@ -13,7 +13,7 @@ returns-in-Written c =
     let a = c.args in
     let n = c.sizes_of in
     let entry : Lent = lent_of a.chains.now a.residue_keys.now a.residue_names.now a.residue_codes.now a.residue_categories.now a.residue_positions.now
-        a.atom_keys.now a.atom_names.now a.elements.now a.positions.now a.occupancies.now in
+    a.atom_keys.now a.atom_names.now a.elements.now a.positions.now a.occupancies.now in
     let well = ap (well_formed_in entry) n.ensures ∙ c.requires in
     put_out entry a.counts a.out.now _ n.ensures _ _ (c.write_well_formed-written.ensures well) _ c.in-Written.is
 
@@ -23,9 +23,9 @@ returns-in-Refused c =
     let n = c.sizes_of in
     let k = c.clear_records.new in
     let entry : Lent = lent_of a.chains.now a.residue_keys.now a.residue_names.now a.residue_codes.now a.residue_categories.now a.residue_positions.now
-        a.atom_keys.now a.atom_names.now a.elements.now a.positions.now a.occupancies.now in
+    a.atom_keys.now a.atom_names.now a.elements.now a.positions.now a.occupancies.now in
     let after : List ℕ → Lent = λ chains. lent_of chains k.residue_keys k.residue_names k.residue_codes k.residue_categories k.residue_positions
-        k.atom_keys k.atom_names k.elements k.positions k.occupancies in
+    k.atom_keys k.atom_names k.elements k.positions k.occupancies in
     let well = ap (well_formed_in entry) n.ensures ∙ c.requires in
     put_nothing entry a.counts a.out.now _ n.ensures _ _ (c.write_well_formed-written.ensures well) _ _ c.in-Refused.is
     (ap after c.clear_u64_from.ensures ∙ none_left entry after c.no_records.ensures (c.clear_records.ensures a.chains.now))
