@@ -1,6 +1,7 @@
 // `write_structure`: the text of the model in the lent slices, or a refusal.
-ghost use Rattle.chains.specs.Names.{first_at, names_at};
-ghost use Rattle.model.specs.Lent.{lent_by};
+ghost use Rattle.std.specs.Prelude.{take};
+ghost use Rattle.chains.specs.Names.{names_in};
+ghost use Rattle.model.specs.Lent.{lent_of};
 ghost use Rattle.writer.specs.Writing.{write_of, Writes};
 
 use chains::{Chain, Names, no_names, take_names};
@@ -26,8 +27,8 @@ fn write_from(
     atom_count: usize,
     out: &mut [u8],
 ) -> Answer
-    ensures { let l = (lent_by (first_at size names) residue_keys residue_names residue_codes residue_categories residue_positions
-        atom_keys atom_names elements positions occupancies).entry in
+    ensures { let l = lent_of (take size names.now) residue_keys.now residue_names.now residue_codes.now residue_categories.now residue_positions.now
+        atom_keys.now atom_names.now elements.now positions.now occupancies.now in
         Writes out (write_of l (record { chains = chain_count; residues = residue_count; atoms = atom_count })) result }
 {
     let size = chains::kept(size);
@@ -71,8 +72,8 @@ pub fn write_structure(
     atom_count: usize,
     out: &mut [u8],
 ) -> Answer
-    ensures { let l = (lent_by (names_at chains) residue_keys residue_names residue_codes residue_categories residue_positions
-        atom_keys atom_names elements positions occupancies).entry in
+    ensures { let l = lent_of (names_in chains.now) residue_keys.now residue_names.now residue_codes.now residue_categories.now residue_positions.now
+        atom_keys.now atom_names.now elements.now positions.now occupancies.now in
         Writes out (write_of l (record { chains = chain_count; residues = residue_count; atoms = atom_count })) result }
 {
     let mut names = no_names();
