@@ -1,9 +1,9 @@
 // The writer through C conventions: what it answers in three numbers, and the text in the buffer.
 ghost use Rattle.std.specs.Prelude.{◌≡◌};
 ghost use Rattle.std.proofs.lemmas.List.Edits.{sets};
-ghost use Rattle.chains.specs.Names.{names_at};
+ghost use Rattle.chains.specs.Names.{names_in};
 ghost use Rattle.field_slices.specs.Slice.{held};
-ghost use Rattle.model.specs.Lent.{lent_by};
+ghost use Rattle.model.specs.Lent.{lent_of};
 ghost use Rattle.probe_structures.specs.Writings.{number_in, detail_in, written_in, numbers_of, WrittenInto};
 
 use chains::Chain;
@@ -65,8 +65,8 @@ pub extern "C" fn probe_write(
     atom_count: usize,
     out: &mut [u8],
 )
-    ensures { let l = (lent_by (names_at chains) residue_keys residue_names residue_codes residue_categories residue_positions
-        atom_keys atom_names elements positions occupancies).entry in
+    ensures { let l = lent_of (names_in chains.now) residue_keys.now residue_names.now residue_codes.now residue_categories.now residue_positions.now
+        atom_keys.now atom_names.now elements.now positions.now occupancies.now in
         let o = held out in let n = held numbers in WrittenInto l chain_count residue_count atom_count o.entry n.entry o.exit n.exit }
 {
     let answer = structures::write_structure(

@@ -1,10 +1,6 @@
 -- A result of another length is refused at once; else the answer of the service is told in it. The names that are lent on are the first of the names;
 -- when they come back, as many as went out, they are again the first of all names.
--- the slices at entry, with these names
-use mathlib.Core.Path.{sym, ◌∙◌}
-use mathlib.Core.List.{List}
-use Prim.Native.Nat.{ℕ, zero-le}
-use lib.ListN.{take}
+use Rattle.std.proofs.Common.{◌≡◌, ◌≤◌, ◌-◌, ℕ, List, length, take, sym, ◌∙◌, arith}
 use Rattle.model.specs.Lent.{Lent, lent_of}
 use Rattle.results.proofs.ResultLaws.{told_whole}
 use Rattle.service.specs.Serving.{Serves}
@@ -12,59 +8,26 @@ use Rattle.structures.proofs.FrontLaws.{lent_front}
 use Rattle.structure_intake.proofs.CallLaws.{called, not_called}
 use Rattle.structure_intake.proofs.calls.call_first.Goals as goal
 
-abbrev entry : goal.Start → List ℕ → Lent
-entry s names =
-    lent_of
-    names
-    s.args.residue-keys.now
-    s.args.residue-names.now
-    s.args.residue-codes.now
-    s.args.residue-categories.now
-    s.args.residue-positions.now
-    s.args.atom-keys.now
-    s.args.atom-names.now
-    s.args.elements.now
-    s.args.positions.now
-    s.args.occupancies.now
-
--- the slices as the service leaves them, with these names
-abbrev left : goal.After-serve-answer → List ℕ → Lent
-left p names =
-    let l = p.serve-answer.new.residue_keys in
-    lent_of
-    names
-    l
-    p.serve-answer.new.residue_names
-    p.serve-answer.new.residue_codes
-    p.serve-answer.new.residue_categories
-    p.serve-answer.new.residue_positions
-    p.serve-answer.new.atom_keys
-    p.serve-answer.new.atom_names
-    p.serve-answer.new.elements
-    p.serve-answer.new.positions
-    p.serve-answer.new.occupancies
-
 pub returns-then-not-is_whole : goal.returns-then-not-is_whole
 returns-then-not-is_whole c =
-    not_called c.args.text.now c.args.out.now c.args.res.now (entry c (take c.args.size c.args.names.now)) (sym c.is_whole.ensures ∙ c.if-not-is_whole.true)
-
-pub slice_bounds-serve-count : goal.slice_bounds-serve-count
-slice_bounds-serve-count c = zero-le
-
-pub slice_bounds-serve-start : goal.slice_bounds-serve-start
-slice_bounds-serve-start c = zero-le
-
-pub slice_bounds-serve-end : goal.slice_bounds-serve-end
-slice_bounds-serve-end c = c.requires
+    let a = c.args in
+    let before : List ℕ → Lent = λ names. lent_of names a.residue_keys.now a.residue_names.now a.residue_codes.now a.residue_categories.now a.residue_positions.now
+        a.atom_keys.now a.atom_names.now a.elements.now a.positions.now a.occupancies.now in
+    not_called a.text.now a.out.now a.res.now (before (take a.size a.names.now)) (sym c.is_whole.ensures ∙ c.if-not-is_whole.true)
 
 pub returns : goal.returns
 returns c =
-    let settings = c.assuming in
-    let l = c.serve-answer.new.out in
-    let names = c.args.names.now in
-    let front = lent_front (λ before after. Serves settings.result (entry c before) c.args.text.now c.args.out.now c.serve-answer.result (left c after) l) c.args.size names c.serve-answer.new.chains c.requires c.names-1.given.0 c.serve-answer.ensures in
+    let a = c.args in
+    let s = c.serve-answer in
+    let n = s.new in
+    let before : List ℕ → Lent = λ names. lent_of names a.residue_keys.now a.residue_names.now a.residue_codes.now a.residue_categories.now a.residue_positions.now
+        a.atom_keys.now a.atom_names.now a.elements.now a.positions.now a.occupancies.now in
+    let after : List ℕ → Lent = λ names. lent_of names n.residue_keys n.residue_names n.residue_codes n.residue_categories n.residue_positions
+        n.atom_keys n.atom_names n.elements n.positions n.occupancies in
     let whole = sym c.is_whole.ensures ∙ c.if-not-is_whole.false in
-    called c.args.text.now c.args.out.now c.args.res.now settings.result settings.ensures (entry c (take c.args.size names)) _ _ _ _ _ whole
+    let long : length n.chains ≡ length (take (a.size - 0) a.names.now) = s.auto.chains in
+    let front = lent_front (λ x y. Serves c.assuming.result (before x) a.text.now a.out.now s.result (after y) n.out) a.size a.names.now n.chains c.requires long s.ensures in
+    called a.text.now a.out.now a.res.now c.assuming.result c.assuming.ensures (before (take a.size a.names.now)) _ _ _ _ _ whole
     front
-    (c.put_numbers.ensures ∙ told_whole c.args.res.now c.serve-answer.result whole)
+    (c.put_numbers.ensures ∙ told_whole a.res.now s.result whole)
     c.status_of.ensures

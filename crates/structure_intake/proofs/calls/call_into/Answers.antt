@@ -1,50 +1,19 @@
 -- No more names are lent on than the array has, and of its 4,096 the first `min size 4096` are the first `size`.
--- the slices at entry, with these names
-use mathlib.Core.List.{List}
-use Prim.Native.Nat.{ℕ}
-use native.Mathlib.Omega.{arith}
+use Rattle.std.proofs.Common.{◌≡◌, ◌≤◌, ℕ, List, length, arith}
 use Rattle.model.specs.Lent.{Lent, lent_of}
 use Rattle.structures.proofs.FrontLaws.{kept_front}
 use Rattle.structure_intake.specs.Calls.{Calls}
 use Rattle.structure_intake.proofs.calls.call_into.Goals as goal
 
-abbrev entry : goal.Start → List ℕ → Lent
-entry s names =
-    lent_of
-    names
-    s.args.residue-keys.now
-    s.args.residue-names.now
-    s.args.residue-codes.now
-    s.args.residue-categories.now
-    s.args.residue-positions.now
-    s.args.atom-keys.now
-    s.args.atom-names.now
-    s.args.elements.now
-    s.args.positions.now
-    s.args.occupancies.now
-
--- the slices as the call leaves them, with these names
-abbrev left : goal.After-call_first → List ℕ → Lent
-left p names =
-    let l = p.call_first.new.residue_names in
-    lent_of
-    names
-    l
-    p.call_first.new.residue_codes
-    p.call_first.new.residue_categories
-    p.call_first.new.residue_positions
-    p.call_first.new.atom_keys
-    p.call_first.new.atom_names
-    p.call_first.new.elements
-    p.call_first.new.positions
-    p.call_first.new.occupancies
-    p.call_first.new.1.1.1.1.1.1.1.1.1.1.1.1.1.1.0
-
-pub call_first-requires : goal.call_first-requires
-call_first-requires c = omega (arith, c.kept-size.ensures, c.call_first-arg-3-1.given.0.1)
-
 pub returns : goal.returns
 returns c =
-    let l = c.call_first.new.out in
-    kept_front (λ before after. Calls (entry c before) c.args.text.now c.args.out.now c.args.res.now c.call_first.result (left c after) l c.call_first.new.res)
-    c.args.size c.kept-size.result c.args.names.now c.call_first.new.names c.kept-size.ensures c.call_first-arg-3-1.given.0.1 c.call_first.auto.1.1.1.0 c.call_first.ensures
+    let a = c.args in
+    let n = c.call_first.new in
+    let full : length a.names.now ≡ 4096 = omega arith in
+    let same : length n.names ≡ length a.names.now = omega arith in
+    let before : List ℕ → Lent = λ names. lent_of names a.residue_keys.now a.residue_names.now a.residue_codes.now a.residue_categories.now a.residue_positions.now
+        a.atom_keys.now a.atom_names.now a.elements.now a.positions.now a.occupancies.now in
+    let after : List ℕ → Lent = λ names. lent_of names n.residue_keys n.residue_names n.residue_codes n.residue_categories n.residue_positions
+        n.atom_keys n.atom_names n.elements n.positions n.occupancies in
+    kept_front (λ x y. Calls (before x) a.text.now a.out.now a.res.now c.call_first.result (after y) n.out n.res)
+    a.size c.kept-size.result a.names.now n.names c.kept-size.ensures full same c.call_first.ensures

@@ -6,4 +6,4 @@ pub returns-then-result_size-eq28 : goal.returns-then-result_size-eq28
 returns-then-result_size-eq28 c = rw c.if-result_size-eq28.true
 
 pub returns : goal.returns
-returns c = rw (ne_eqb c.args.result-size 28 c.if-result_size-eq28.false)
+returns c = rw (ne_eqb c.args.result_size 28 c.if-result_size-eq28.false)
