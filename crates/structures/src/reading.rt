@@ -1,4 +1,4 @@
-// `read`: any bytes in; the model in the lent slices, or a refusal. The borrow checker covers no function over a slice of structs, so it is proved by hand; it only calls.
+// `read`: any bytes in; the model in the lent slices, or a refusal.
 ghost use Rattle.chains.specs.Names.{names_at};
 ghost use Rattle.model.specs.Lent.{lent_by};
 ghost use Rattle.reader.specs.Reading.{ReadBy};

@@ -1,5 +1,4 @@
-// The reading of the lines over chain records, run by run: the chain of a run is looked for in the records, or appended to them, and its rows are put in by its place. The borrow checker covers no
-// function over a slice of structs, so `read_runs` is proved by hand; it calls and loops, and no more.
+// The reading of the lines over chain records, run by run: the chain of a run is looked for in the records, or appended to them, and its rows are put in by its place.
 ghost use Rattle.std.specs.Prelude.{◌≡◌};
 ghost use Rattle.model.specs.Fold.{start};
 ghost use Rattle.building.specs.Holds.{records_by};

@@ -30,12 +30,12 @@ returns c =
     let n = r.new in
     let k = c.close-answer in
     let l : Lent = lent_of (names_in a.chains.now) a.residue_keys.now a.residue_names.now a.residue_codes.now a.residue_categories.now a.residue_positions.now
-        a.atom_keys.now a.atom_names.now a.elements.now a.positions.now a.occupancies.now in
+    a.atom_keys.now a.atom_names.now a.elements.now a.positions.now a.occupancies.now in
     let names : List ℕ = names_in n.chains in
     let between : Lent = lent_of names n.residue_keys n.residue_names a.residue_codes.now n.residue_marks a.residue_positions.now
-        n.atom_keys n.atom_names n.elements n.positions n.occupancies in
+    n.atom_keys n.atom_names n.elements n.positions n.occupancies in
     let after : List ℕ → Lent = λ chains. lent_of chains k.new.residue_keys k.new.residue_names k.new.residue_codes k.new.residue_categories k.new.residue_positions
-        k.new.atom_keys k.new.atom_names k.new.elements k.new.positions k.new.occupancies in
+    k.new.atom_keys k.new.atom_names k.new.elements k.new.positions k.new.occupancies in
     let whole = read_whole a.text.now (acts_of a.settings a.text.now) (acts_are_sound a.settings a.text.now) l between _ c.room_by-room.result c.halted_early-early.result r.result k.result
-        (room_here l a.chains.now refl c.room_by-room.ensures) c.halted_early-early.ensures r.ensures refl refl (k.ensures names) in
+    (room_here l a.chains.now refl c.room_by-room.ensures) c.halted_early-early.ensures r.ensures refl refl (k.ensures names) in
     (whole.0, ap after (c.clear_from.ensures ∙ ap (λ (m : ℕ). cleared 0 m names) c.chains_left-left.ensures) ∙ whole.1)

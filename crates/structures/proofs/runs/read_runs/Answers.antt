@@ -31,10 +31,10 @@ one_run :
     → UnderWay text settings room first target to (then (names_in after))
 one_run {text} {settings} {room} {first} {target} {s} {r} u chains same told more {many} {name} {place} many_is named found {after} stored {to} then takes =
     let found_here : ChainFound (take (met s) r.chains) (chain_in s.waiting) place =
-      subst (λ (l : List ℕ). ChainFound (take (met s) l) (chain_in s.waiting) place) (sym same)
-      (subst (λ (n : ℕ). ChainFound (take (met s) (names_in chains)) n place) named (subst (λ (n : ℕ). ChainFound (take n (names_in chains)) name place) many_is found)) in
+    subst (λ (l : List ℕ). ChainFound (take (met s) l) (chain_in s.waiting) place) (sym same)
+    (subst (λ (n : ℕ). ChainFound (take (met s) (names_in chains)) n place) named (subst (λ (n : ℕ). ChainFound (take n (names_in chains)) name place) many_is found)) in
     let names : names_in after ≡ set r.chains place (chain_in s.waiting) =
-      ap names_in stored ∙ map_set (λ (c : Chain). c.name) chains place (chain_of name) ∙ ap (λ (l : List ℕ). set l place name) (sym same) ∙ ap (set r.chains place) named in
+    ap names_in stored ∙ map_set (λ (c : Chain). c.name) chains place (chain_of name) ∙ ap (λ (l : List ℕ). set l place name) (sym same) ∙ ap (set r.chains place) named in
     subst (λ (l : List ℕ). UnderWay text settings room first target to (then l)) (sym names)
     (turn u (sym told ∙ more) place found_here to (then (set r.chains place (chain_in s.waiting))) (takes (set r.chains place (chain_in s.waiting))))
 
