@@ -22,7 +22,7 @@ fn renewed(result_size: usize, size: usize) -> usize
     0
 }
 
-// The call by names, in the first so many. The names come as a slice: the borrow checker covers a part of one, and no part of a lent array.
+// The call by names, in the first so many. The names come as a slice, of which a part is lent on.
 fn call_first(
     text: &[u8],
     out: &mut [u8],

@@ -17,9 +17,9 @@ returns c =
     let long : length xs ≡ 4096 = ap length c.no_names-names.ensures ∙ length-replicate {A = ℕ} 4096 0 in
     let sized : length n.names ≡ 4096 = omega arith in
     let before : List ℕ → Lent = λ names. lent_of names a.residue_keys.now a.residue_names.now a.residue_codes.now a.residue_categories.now a.residue_positions.now
-        a.atom_keys.now a.atom_names.now a.elements.now a.positions.now a.occupancies.now in
+    a.atom_keys.now a.atom_names.now a.elements.now a.positions.now a.occupancies.now in
     let after : List ℕ → Lent = λ names. lent_of names n.residue_keys n.residue_names n.residue_codes n.residue_categories n.residue_positions
-        n.atom_keys n.atom_names n.elements n.positions n.occupancies in
+    n.atom_keys n.atom_names n.elements n.positions n.occupancies in
     let stored = c.store_names.ensures ∙ ap (named a.chains.now n.names) c.renewed-count.ensures in
     subst (λ (chains : List Chain). Calls (before (names_in a.chains.now)) a.text.now a.out.now a.res.now s.result (after (names_in chains)) n.out n.res) (sym stored)
     (call_stored a.chains.now xs n.names (before xs) (after xs) a.text.now a.out.now a.res.now s.result n.out n.res long sized s.ensures)
