@@ -1,5 +1,5 @@
 -- The numbers told are those of the answer, which is what the reading says under the settings that assume.
-use Rattle.std.proofs.Common.{ℕ, List, ◌∙◌, ap, subst}
+use Rattle.std.proofs.Common.{◌∙◌, ap, subst}
 use Rattle.std.proofs.lemmas.List.Edits.{sets}
 use Rattle.rows.specs.declared.settings.Settings.{Settings}
 use Rattle.model.specs.Lent.{Lent, lent_of}
@@ -15,8 +15,8 @@ returns c =
     let r = c.read-answer in
     let n = r.new in
     let before : Lent = lent_of (names_in a.chains.now) a.residue_keys.now a.residue_names.now a.residue_codes.now a.residue_categories.now a.residue_positions.now
-        a.atom_keys.now a.atom_names.now a.elements.now a.positions.now a.occupancies.now in
+    a.atom_keys.now a.atom_names.now a.elements.now a.positions.now a.occupancies.now in
     let after : Lent = lent_of (names_in n.chains) n.residue_keys n.residue_names n.residue_codes n.residue_categories n.residue_positions
-        n.atom_keys n.atom_names n.elements n.positions n.occupancies in
+    n.atom_keys n.atom_names n.elements n.positions n.occupancies in
     let read = subst (λ (s : Settings). ReadBy s before a.text.now r.result after) c.assuming.ensures r.ensures in
     (c.put_numbers.ensures ∙ ap (λ (answer : Answer). sets a.numbers.now 0 (numbers_of answer)) read.0, read.1)

@@ -1,5 +1,5 @@
 -- The numbers told are those of the answer, which is what the writing says.
-use Rattle.std.proofs.Common.{ℕ, List, ◌∙◌, ap}
+use Rattle.std.proofs.Common.{◌∙◌, ap}
 use Rattle.std.proofs.lemmas.List.Edits.{sets}
 use Rattle.writer.specs.declared.answers.Answer.{Answer}
 use Rattle.probe_structures.specs.Writings.{numbers_of}
