@@ -1,7 +1,7 @@
 -- Document 01's samples to prove, as one table. Each holds by computing what the definitions say of it.
 use mathlib.Core.Path.{◌≡◌, refl}
 use mathlib.Core.List.{List, [], ◌∷◌, map}
-use Prim.Native.Nat.{ℕ, ◌+◌, ◌-◌, ◌^◌}
+use Prim.Native.Nat.{ℕ, ◌+◌, ◌^◌}
 use Prim.Native.String.{String}
 use Rattle.ascii.specs.Bytes.{bytes}
 use Rattle.ascii.specs.Digits.{digit_run, all_digits, number_from}
