@@ -25,16 +25,10 @@ returns-then-point-s c =
     c.valued.ensures
     ∙ short_whole a.negative a.s.now c.requires w.result.number w.result.end w.ensures.number_value w.ensures.end_value c.if-point-eq0.false c.if-point-s.true
 
-pub returns-then-s-point-ne46 : goal.returns-then-s-point-ne46
-returns-then-s-point-ne46 c = c.read_unsigned-then-s-point-ne46.ensures
-
 pub walk_digits-all-requires : goal.walk_digits-all-requires
 walk_digits-all-requires c =
     let w = c.walk_digits-whole in
     (omega arith, (c.requires, lt_of_lt_of_le w.ensures.number_bound.0 (ten_grows w.result.end _ (omega arith))))
-
-pub returns-then-all-s : goal.returns-then-all-s
-returns-then-all-s c = c.read_unsigned-then-all-s.ensures
 
 pub valued-requires-2 : goal.valued-requires-2
 valued-requires-2 c =
@@ -48,4 +42,4 @@ returns c =
     let all = c.walk_digits-all in
     c.valued-2.ensures
     ∙ short_pointed a.negative a.s.now c.requires w.result.number w.result.end w.ensures.number_value w.ensures.end_value
-    c.if-point-eq0.false all.result.number all.result.end (omega arith) c.if-s-point-ne46.false all.ensures.number_value all.ensures.end_value c.if-all-s.false
+    (omega arith) all.result.number all.result.end (omega arith) (omega arith) all.ensures.number_value all.ensures.end_value (omega arith)
