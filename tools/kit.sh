@@ -9,8 +9,8 @@ fi
 # Says so where this kit has another identity: what was proved with one kit may need a change with another. To be called before
 # anything is proved.
 tell_of_another_kit() {
-    [ "$(rt version)" = "$kit_made_for" ] ||
-        echo "${0##*/}: this is the kit '$(rt version)'; the repository was made with '$kit_made_for'" >&2
+    [ "$(rt version </dev/null)" = "$kit_made_for" ] ||
+        echo "${0##*/}: this is the kit '$(rt version </dev/null)'; the repository was made with '$kit_made_for'" >&2
 }
 
 # Prints the names of all crates, as crates.txt lists them.
