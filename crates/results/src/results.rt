@@ -3,7 +3,8 @@ ghost use Rattle.std.specs.Prelude.{◌≡◌, true, ◌+◌, ◌≤◌, length}
 ghost use Rattle.std.proofs.lemmas.List.Edits.{sets};
 ghost use Rattle.results.specs.Results.{status_in, numbers_in, little_endian, bytes_of, is_whole, told_in};
 
-use crate::answers::Answer;
+use crate::answers::Served;
+use refusals::Refusal;
 
 pub fn is_whole(res: &[u8]) -> bool
     ensures { result ≡ is_whole res.now }
@@ -11,15 +12,12 @@ pub fn is_whole(res: &[u8]) -> bool
     res.len() == 28
 }
 
-pub fn status_of(answer: Answer) -> u32
+pub fn status_of(answer: Result<Served, Refusal>) -> u32
     ensures { result ≡ status_in answer }
 {
     match answer {
-        Answer::Served {
-            written: _,
-            counts: _,
-        } => 0,
-        Answer::Refused(why) => {
+        Ok(_) => 0,
+        Err(why) => {
             let reason = why.reason;
             reason.number() as u32
         }
@@ -27,11 +25,11 @@ pub fn status_of(answer: Answer) -> u32
 }
 
 // Line, detail, bytes written, rows, skipped, outdone and assumed.
-fn numbers_of(answer: Answer) -> [usize; 7]
+fn numbers_of(answer: Result<Served, Refusal>) -> [usize; 7]
     ensures { result ≡ numbers_in answer }
 {
     match answer {
-        Answer::Served { written, counts } => [
+        Ok(Served { written, counts }) => [
             0,
             0,
             written,
@@ -40,7 +38,7 @@ fn numbers_of(answer: Answer) -> [usize; 7]
             counts.outdone,
             counts.assumed,
         ],
-        Answer::Refused(why) => {
+        Err(why) => {
             let reason = why.reason;
             [why.line, reason.detail(), 0, 0, 0, 0, 0]
         }
@@ -57,7 +55,7 @@ fn put_number(res: &mut [u8], at: usize, n: usize)
     res[at + 3] = (n / 0x1000000 % 256) as u8;
 }
 
-fn put_whole(res: &mut [u8], answer: Answer)
+fn put_whole(res: &mut [u8], answer: Result<Served, Refusal>)
     requires { is_whole res.old ≡ true }
     ensures { res.new ≡ bytes_of (numbers_in answer) }
 {
@@ -70,7 +68,7 @@ fn put_whole(res: &mut [u8], answer: Answer)
 }
 
 // A result of another length stays as it was.
-pub fn put_numbers(res: &mut [u8], answer: Answer)
+pub fn put_numbers(res: &mut [u8], answer: Result<Served, Refusal>)
     ensures { res.new ≡ told_in res.old answer }
 {
     if is_whole(res) {

@@ -2,7 +2,7 @@
 ghost use Rattle.std.specs.Prelude.{◌≡◌, [], ◌∷◌, ◌+◌, ◌^◌, ◌<◌};
 ghost use Rattle.row_texts.specs.Emitted.{Emits, place_after};
 
-use ascii::Placed;
+use ascii::NoRoom;
 
 const LAST: usize = 0xffff_ffff_ffff_ffff;
 
@@ -16,12 +16,12 @@ pub(crate) fn place_on(at: usize, n: usize) -> usize
     at + n
 }
 
-pub(crate) fn place_after(at: usize, placed: Placed) -> usize
+pub(crate) fn place_after(at: usize, placed: Result<usize, NoRoom>) -> usize
     ensures { place_after at placed < 2 ^ 64 → result ≡ place_after at placed }
 {
     match placed {
-        Placed::Next(next) => next,
-        Placed::NoRoom(n) => place_on(at, n),
+        Ok(next) => next,
+        Err(short) => place_on(at, short.needed),
     }
 }
 

@@ -4,9 +4,9 @@ ghost use Rattle.numbers.specs.Rounding.{printable};
 ghost use Rattle.row_texts.specs.Emitted.{Emits};
 ghost use Rattle.row_texts.specs.Fields.{decimal_of, sequence_text, name_text, symbol_text, code_text, group_text, number_text, coordinate_text};
 
-use crate::emitting::{place_after, put_byte, put_word};
+use crate::emitting::{place_after, place_on, put_byte, put_word};
 use crate::packed_names::{plain_length, put_packed};
-use numbers::Printed;
+use numbers::PrintError;
 
 // Where sequence number 0 stands among those moved up.
 pub(crate) const ZERO: u32 = 0x8000_0000;
@@ -85,9 +85,9 @@ pub(crate) fn put_number(out: &mut [u8], at: usize, polymer: bool, number: u64) 
 pub(crate) fn put_coordinate(out: &mut [u8], at: usize, x: f64) -> usize
     ensures { printable x ≡ true → Emits out at (coordinate_text x) result }
 {
-    let printed = numbers::write_thousandths(out, at, x);
-    match printed {
-        Printed::BeyondReach => at,
-        Printed::Put(placed) => place_after(at, placed),
+    match numbers::write_thousandths(out, at, x) {
+        Ok(next) => next,
+        Err(PrintError::NoRoom(short)) => place_on(at, short.needed),
+        Err(PrintError::BeyondReach) => at,
     }
 }

@@ -63,7 +63,7 @@ fn is_unwritable(chains: &[u64], chain_count: usize, atom: Atom, walk: Walk) -> 
     is_unwritable_code(code_part(atom.key))
 }
 
-// The id of the first atom that no text can hold; 0 where there is none.
+// The id of the first atom that no text can hold.
 pub(crate) fn first_unwritable(
     chains: &[u64],
     residue_keys: &[u64],
@@ -77,7 +77,7 @@ pub(crate) fn first_unwritable(
     positions: &[[f64; 3]],
     occupancies: &[f64],
     counts: Room,
-) -> usize
+) -> Option<usize>
     requires { Walkable chains.now counts }
     ensures { let l = lent_of chains.now residue_keys.now residue_names.now residue_codes.now residue_categories.now residue_positions.now atom_keys.now atom_names.now elements.now positions.now occupancies.now in
         well_formed_in l counts ≡ true → result ≡ unwritable_in (model_in l counts) }
@@ -102,9 +102,9 @@ pub(crate) fn first_unwritable(
             atom.key,
         );
         if is_unwritable(chains, counts.chains, atom, walk) {
-            return i + 1;
+            return Some(i + 1);
         }
         i += 1;
     }
-    0
+    None
 }

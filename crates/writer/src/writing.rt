@@ -7,7 +7,6 @@ ghost use Rattle.writer.specs.PolymerNumbers.{Walkable};
 ghost use Rattle.writer.specs.Text.{text_of};
 ghost use Rattle.writer.specs.Writing.{fitted, write_of, Writes};
 
-use crate::answers::Answer;
 use crate::atoms::put_atom_loop;
 use crate::ends::past_text;
 use crate::headers::put_opening;
@@ -81,7 +80,7 @@ fn write_fitting(
     positions: &[[f64; 3]],
     occupancies: &[f64],
     counts: Room,
-) -> Answer
+) -> Result<usize, Reason>
     requires { Walkable chains.now counts }
     ensures { let l = lent_of chains.now residue_keys.now residue_names.now residue_codes.now residue_categories.now residue_positions.now atom_keys.now atom_names.now elements.now positions.now occupancies.now in
         well_formed_in l counts ≡ true → Writes out (λ size. fitted size (text_of (model_in l counts))) result }
@@ -101,7 +100,7 @@ fn write_fitting(
         counts,
     );
     if out.len() < needed {
-        return Answer::Refused(Reason::OutputTooShort { needed });
+        return Err(Reason::OutputTooShort { needed });
     }
     let end = put_text(
         out,
@@ -118,7 +117,7 @@ fn write_fitting(
         occupancies,
         counts,
     );
-    Answer::Written(end)
+    Ok(end)
 }
 
 // 13: an atom that no text can hold.
@@ -136,12 +135,12 @@ fn write_writable(
     positions: &[[f64; 3]],
     occupancies: &[f64],
     counts: Room,
-) -> Answer
+) -> Result<usize, Reason>
     requires { Walkable chains.now counts }
     ensures { let l = lent_of chains.now residue_keys.now residue_names.now residue_codes.now residue_categories.now residue_positions.now atom_keys.now atom_names.now elements.now positions.now occupancies.now in
         well_formed_in l counts ≡ true → Writes out (write_of l counts) result }
 {
-    let atom = first_unwritable(
+    if let Some(atom) = first_unwritable(
         chains,
         residue_keys,
         residue_names,
@@ -154,9 +153,8 @@ fn write_writable(
         positions,
         occupancies,
         counts,
-    );
-    if atom != 0 {
-        return Answer::Refused(Reason::CannotBeWritten { atom });
+    ) {
+        return Err(Reason::CannotBeWritten { atom });
     }
     write_fitting(
         out,
@@ -191,15 +189,15 @@ pub fn write_well_formed(
     occupancies: &[f64],
     counts: Room,
     out: &mut [u8],
-) -> Answer
+) -> Result<usize, Reason>
     ensures { let l = lent_of chains.now residue_keys.now residue_names.now residue_codes.now residue_categories.now residue_positions.now atom_keys.now atom_names.now elements.now positions.now occupancies.now in
         well_formed_in l counts ≡ true → Writes out (write_of l counts) result }
 {
     if chains.len() < counts.chains {
-        return Answer::Refused(Reason::NotWellFormed);
+        return Err(Reason::NotWellFormed);
     }
     if 1048576 < counts.atoms {
-        return Answer::Refused(Reason::NotWellFormed);
+        return Err(Reason::NotWellFormed);
     }
     write_writable(
         out,
@@ -233,7 +231,7 @@ pub fn write_by_names(
     occupancies: &[f64],
     counts: Room,
     out: &mut [u8],
-) -> Answer
+) -> Result<usize, Reason>
     ensures { let l = lent_of chains.now residue_keys.now residue_names.now residue_codes.now residue_categories.now residue_positions.now atom_keys.now atom_names.now elements.now positions.now occupancies.now in
         Writes out (write_of l counts) result }
 {
@@ -267,5 +265,5 @@ pub fn write_by_names(
             out,
         );
     }
-    Answer::Refused(Reason::NotWellFormed)
+    Err(Reason::NotWellFormed)
 }
