@@ -35,16 +35,16 @@ fn is_kth_item(token: &[u8], k: usize) -> bool
     ascii::same_bytes(token, &row[0..end])
 }
 
-// Which item the token names, from 0; 15 where it names none of them.
-pub fn item_of(token: &[u8]) -> usize
+// Which item the token names, from 0.
+pub fn item_of(token: &[u8]) -> Option<usize>
     ensures { result ≡ item_of token.now }
 {
     let mut k = 0;
     while k < ITEMS {
         if is_kth_item(token, k) {
-            return k;
+            return Some(k);
         }
         k += 1;
     }
-    ITEMS
+    None
 }

@@ -4,7 +4,7 @@ ghost use Rattle.ascii.specs.Output.{Stored, placed_of, buffer_after};
 ghost use Rattle.tokens.specs.Quote.{has, all_plain, quote_for, in_quotes, quote_of};
 
 use crate::kinds::is_plain;
-use ascii::{Placed, put_text};
+use ascii::{NoRoom, put_text};
 
 fn has_byte(s: &[u8], b: u8) -> bool
     ensures { result ≡ has b s.now }
@@ -56,18 +56,18 @@ fn put_in_quotes(name: &[u8], q: u8, out: &mut [u8], at: usize) -> usize
 }
 
 // The name between two quotes, where they fit.
-fn put_quoted(name: &[u8], q: u8, out: &mut [u8], at: usize) -> Placed
+fn put_quoted(name: &[u8], q: u8, out: &mut [u8], at: usize) -> Result<usize, NoRoom>
     ensures { (result ≡ placed_of out.old at (in_quotes q name.now)) × (out.new ≡ buffer_after out.old at (in_quotes q name.now)) }
 {
     let n = name.len() + 2;
     if !ascii::fits_at(out.len(), at, n) {
-        return Placed::NoRoom(n);
+        return Err(NoRoom { needed: n });
     }
-    Placed::Next(put_in_quotes(name, q, out, at))
+    Ok(put_in_quotes(name, q, out, at))
 }
 
 // Puts the name as it is written into the buffer from index at on; where it does not fit, no byte changes.
-pub fn quote_string(name: &[u8], out: &mut [u8], at: usize) -> Placed
+pub fn quote_string(name: &[u8], out: &mut [u8], at: usize) -> Result<usize, NoRoom>
     ensures { (result ≡ placed_of out.old at (quote_of name.now)) × (out.new ≡ buffer_after out.old at (quote_of name.now)) }
 {
     if name.len() == 0 {
