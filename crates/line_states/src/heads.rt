@@ -1,6 +1,6 @@
 // The state that a reader is in, and what the headers of its loop have said.
 ghost use Rattle.std.specs.Prelude.{◌≡◌, ◌<◌};
-ghost use Rattle.line_states.specs.Heads.{no_heads, start_heads, in_state, with_header};
+ghost use Rattle.line_states.specs.Heads.{no_heads, start_heads, in_state, with_item, with_header};
 
 use rows::Columns;
 
@@ -53,6 +53,16 @@ pub(crate) fn in_state(state: State, heads: Heads) -> Heads
     }
 }
 
+// One of the fifteen items takes the column; any other takes none.
+fn with_item(columns: Columns, item: Option<usize>, column: u8) -> Columns
+    ensures { result ≡ with_item columns item column }
+{
+    match item {
+        Some(place) => rows::with_column(columns, place, column),
+        None => columns,
+    }
+}
+
 // A header takes the next column, also where its item does not matter.
 pub(crate) fn with_header(heads: Heads, token: &[u8]) -> Heads
     requires { heads.headers < 64 }
@@ -60,7 +70,7 @@ pub(crate) fn with_header(heads: Heads, token: &[u8]) -> Heads
 {
     let state = heads.state;
     let before = heads.columns;
-    let columns = rows::with_column(before, tokens::item_of(token), heads.headers as u8);
+    let columns = with_item(before, tokens::item_of(token), heads.headers as u8);
     let atom_site = token_values::is_atom_site_item(token);
     Heads {
         state,
