@@ -6,38 +6,32 @@ ghost use Rattle.building.specs.Slices.{ChainFound};
 ghost use Rattle.acts.specs.Standing.{standing_by, passed_at, Keeps};
 
 use crate::act::Act;
-use building::{Held, Put, put_site, skip_row};
+use building::{Held, put_site, skip_row};
 use model::Room;
-use refusals::{Reason, Refusal};
+use refusals::{Reason, RecordKind, Refusal};
 use rows::Site;
 
-#[derive(Clone, Copy)]
-pub enum Halt {
-    Going,
-    Refused(Refusal),
-}
-
-// Where a reading stands: what the slices hold, and whether a refusal has ended it.
+// Where a reading stands: what the slices hold, and the refusal that has ended it, if one has.
 #[derive(Clone, Copy)]
 pub struct Standing {
     pub held: Held,
-    pub halt: Halt,
+    pub halt: Result<(), Refusal>,
 }
 
-fn standing_by(number: usize, held: Held, put: Put) -> Standing
+fn standing_by(number: usize, held: Held, put: Result<Held, RecordKind>) -> Standing
     ensures { result ≡ standing_by number held put }
 {
     match put {
-        Put::NoRoom(kind) => Standing {
+        Err(kind) => Standing {
             held,
-            halt: Halt::Refused(Refusal {
+            halt: Err(Refusal {
                 line: number,
                 reason: Reason::NoRoom(kind),
             }),
         },
-        Put::Done(more) => Standing {
+        Ok(more) => Standing {
             held: more,
-            halt: Halt::Going,
+            halt: Ok(()),
         },
     }
 }
@@ -86,19 +80,19 @@ pub fn pass_act(number: usize, held: Held, act: Act) -> Standing
     match act {
         Act::Pass => Standing {
             held,
-            halt: Halt::Going,
+            halt: Ok(()),
         },
         Act::Skip => Standing {
             held: skip_row(held),
-            halt: Halt::Going,
+            halt: Ok(()),
         },
         Act::Keep(_) => Standing {
             held,
-            halt: Halt::Going,
+            halt: Ok(()),
         },
         Act::Refuse(why) => Standing {
             held,
-            halt: Halt::Refused(Refusal {
+            halt: Err(Refusal {
                 line: number,
                 reason: why,
             }),

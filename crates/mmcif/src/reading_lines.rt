@@ -6,16 +6,17 @@ ghost use Rattle.acts.specs.Standing.{ahead, Passes};
 ghost use Rattle.mmcif.specs.Acts.{acts_of};
 
 use crate::stages::{chain_in, first_row, take_run, waits};
-use acts::{Halt, Standing};
+use acts::Standing;
 use building::chain_place;
-use field_slices::store_u64;
+use field_slices::store;
 use model::Room;
+use refusals::Refusal;
 use rows::Settings;
 
 // The lines of the text, unless it was refused before them.
 pub fn read_lines(
     text: &[u8],
-    halt: Halt,
+    halt: Result<(), Refusal>,
     chains: &mut [u64],
     residue_keys: &mut [u64],
     residue_names: &mut [u64],
@@ -39,7 +40,7 @@ pub fn read_lines(
         let held = standing.held;
         let counts = held.counts;
         place = chain_place(chains, counts.chains, name, place);
-        store_u64(chains, place, name);
+        store(chains, place, name);
         stage = take_run(
             text,
             residue_keys,

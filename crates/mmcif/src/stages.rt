@@ -6,17 +6,18 @@ ghost use Rattle.building.specs.Sites.{with_place};
 ghost use Rattle.mmcif.specs.Stages.{onward_to, number_after, chain_in, is_waiting, is_of, is_own, stage_at, first_stage, GoesOnTo, PutsWaiting, TakesRun, Walks};
 
 use crate::plans::plan_of;
-use acts::{Act, Halt, Standing, keep_site, pass_act};
+use acts::{Act, Standing, keep_site, pass_act};
 use building::none_held;
 use line_states::Heads;
 use model::Room;
+use refusals::Refusal;
 use rows::{Settings, Site};
 
 // The row that is kept next, with its line.
 #[derive(Clone, Copy)]
-pub enum Waiting {
-    Nothing,
-    Row(usize, Site),
+pub struct Waiting {
+    pub line: usize,
+    pub site: Site,
 }
 
 // The next line's place and number, the state of the headers, what is held, and the row that waits.
@@ -26,16 +27,16 @@ pub struct Stage {
     pub number: usize,
     pub heads: Heads,
     pub standing: Standing,
-    pub waiting: Waiting,
+    pub waiting: Option<Waiting>,
 }
 
 // Where to read on: a refusal ends the text.
-fn onward(halt: Halt, next: usize, size: usize) -> usize
+fn onward(halt: Result<(), Refusal>, next: usize, size: usize) -> usize
     ensures { result ≡ onward_to halt next size }
 {
     match halt {
-        Halt::Going => next,
-        Halt::Refused(_) => size,
+        Ok(()) => next,
+        Err(_) => size,
     }
 }
 
@@ -54,8 +55,8 @@ pub fn waits(stage: Stage) -> bool
 {
     let waiting = stage.waiting;
     match waiting {
-        Waiting::Nothing => false,
-        Waiting::Row(_, _) => true,
+        None => false,
+        Some(_) => true,
     }
 }
 
@@ -65,8 +66,8 @@ pub fn chain_in(stage: Stage) -> u64
 {
     let waiting = stage.waiting;
     match waiting {
-        Waiting::Nothing => 0,
-        Waiting::Row(_, site) => site.chain,
+        None => 0,
+        Some(row) => row.site.chain,
     }
 }
 
@@ -76,8 +77,8 @@ fn is_of(stage: Stage, name: u64) -> bool
 {
     let waiting = stage.waiting;
     match waiting {
-        Waiting::Nothing => false,
-        Waiting::Row(_, site) => site.chain == name,
+        None => false,
+        Some(row) => row.site.chain == name,
     }
 }
 
@@ -120,9 +121,9 @@ fn to_next_row(
                 heads,
                 standing: Standing {
                     held,
-                    halt: Halt::Going,
+                    halt: Ok(()),
                 },
-                waiting: Waiting::Row(number, site),
+                waiting: Some(Waiting { line: number, site }),
             };
         }
         standing = pass_act(number, held, act);
@@ -135,7 +136,7 @@ fn to_next_row(
         number,
         heads,
         standing,
-        waiting: Waiting::Nothing,
+        waiting: None,
     }
 }
 
@@ -158,10 +159,10 @@ fn put_waiting(
         PutsWaiting room found stage result l.entry l.exit }
 {
     let standing = stage.standing;
-    let row = stage.waiting;
-    match row {
-        Waiting::Nothing => standing,
-        Waiting::Row(line, site) => {
+    let waiting = stage.waiting;
+    match waiting {
+        None => standing,
+        Some(row) => {
             let held = standing.held;
             keep_site(
                 residue_keys,
@@ -173,10 +174,10 @@ fn put_waiting(
                 positions,
                 occupancies,
                 room,
-                line,
+                row.line,
                 held,
                 found,
-                site,
+                row.site,
             )
         }
     }
@@ -232,7 +233,7 @@ fn walk(
 }
 
 // The first row of the text, unless the text was refused before all lines. Nothing is put in before it, so the slices may be as short as can be.
-pub fn first_row(text: &[u8], settings: Settings, halt: Halt) -> Stage
+pub fn first_row(text: &[u8], settings: Settings, halt: Result<(), Refusal>) -> Stage
     ensures { GoesOnTo text.now settings (first_stage halt (length text.now)) result }
 {
     let heads = line_states::start_heads();
@@ -267,7 +268,7 @@ pub fn first_row(text: &[u8], settings: Settings, halt: Halt) -> Stage
             number: 1,
             heads,
             standing: Standing { held, halt },
-            waiting: Waiting::Nothing,
+            waiting: None,
         },
         0,
     )

@@ -2,8 +2,11 @@
 ghost use Rattle.model.specs.Lent.{lent};
 ghost use Rattle.reader.specs.Reading.{ReadBy};
 
+use building::Counts;
+use field_slices::clear_from;
 use mmcif::read_lines;
-use readings::{Answer, chains_left, close, halted_early};
+use readings::{chains_left, close, halted_early};
+use refusals::Refusal;
 use rows::Settings;
 
 pub fn read_by_names(
@@ -20,7 +23,7 @@ pub fn read_by_names(
     positions: &mut [[f64; 3]],
     occupancies: &mut [f64],
     settings: Settings,
-) -> Answer
+) -> Result<Counts, Refusal>
     ensures { let l = lent chains residue_keys residue_names residue_codes residue_categories residue_positions atom_keys atom_names elements positions occupancies in
         ReadBy settings l.entry text.now result l.exit }
 {
@@ -66,6 +69,6 @@ pub fn read_by_names(
         occupancies,
         standing,
     );
-    field_slices::clear_u64_from(chains, chains_left(answer));
+    clear_from(chains, chains_left(answer), 0);
     answer
 }

@@ -4,32 +4,33 @@ ghost use Rattle.field_slices.specs.Clearing.{cleared};
 ghost use Rattle.model.specs.Lent.{lent_by};
 ghost use Rattle.readings.specs.Closing.{finished_by, chains_left, Closes};
 
-use crate::answers::Answer;
-use acts::{Halt, Standing};
+use acts::Standing;
 use building::{Counts, gather};
-use finishing::{Finish, clear_records, finish_model};
+use finishing::{Unknown, clear_records, finish_model};
 use model::no_records;
 use refusals::{Reason, Refusal};
 
-fn finished_by(finish: Finish, counts: Counts) -> Answer
+fn finished_by(finish: Result<(), Unknown>, counts: Counts) -> Result<Counts, Refusal>
     ensures { result ≡ finished_by finish counts }
 {
     match finish {
-        Finish::Unknown(place) => Answer::Refused(Refusal {
+        Err(unknown) => Err(Refusal {
             line: 0,
-            reason: Reason::UnknownResidue { place: place },
+            reason: Reason::UnknownResidue {
+                place: unknown.place,
+            },
         }),
-        Finish::Known => Answer::Read(counts),
+        Ok(()) => Ok(counts),
     }
 }
 
 // How many chains stay: as many as were read, and none after a refusal.
-pub fn chains_left(answer: Answer) -> usize
+pub fn chains_left(answer: Result<Counts, Refusal>) -> usize
     ensures { result ≡ chains_left answer }
 {
     match answer {
-        Answer::Read(counts) => counts.chains,
-        Answer::Refused(_) => 0,
+        Ok(counts) => counts.chains,
+        Err(_) => 0,
     }
 }
 
@@ -46,14 +47,14 @@ pub fn close(
     positions: &mut [[f64; 3]],
     occupancies: &mut [f64],
     standing: Standing,
-) -> Answer
+) -> Result<Counts, Refusal>
     ensures { (names : List ℕ) →
         let l = lent_by (record { entry = names; exit = cleared 0 (chains_left result) names }) residue_keys residue_names residue_codes residue_categories residue_positions atom_keys atom_names elements positions occupancies in
         Closes l.entry standing result l.exit }
 {
     let halt = standing.halt;
     match halt {
-        Halt::Refused(why) => {
+        Err(why) => {
             clear_records(
                 residue_keys,
                 residue_names,
@@ -67,9 +68,9 @@ pub fn close(
                 occupancies,
                 no_records(),
             );
-            Answer::Refused(why)
+            Err(why)
         }
-        Halt::Going => {
+        Ok(()) => {
             let held = standing.held;
             gather(
                 residue_keys,

@@ -2,30 +2,29 @@
 ghost use Rattle.std.specs.Prelude.{◌≡◌};
 ghost use Rattle.readings.specs.Closing.{halted_by, halted_early};
 
-use acts::Halt;
 use lines::Outside;
 use refusals::{Reason, Refusal};
 
 // The largest text.
 const LARGEST: usize = 16777216;
 
-fn halted_by(outside: Outside) -> Halt
+fn halted_by(outside: Option<Outside>) -> Result<(), Refusal>
     ensures { result ≡ halted_by outside }
 {
     match outside {
-        Outside::None => Halt::Going,
-        Outside::At(line, byte) => Halt::Refused(Refusal {
-            line: line,
-            reason: Reason::OutsideDomain { byte: byte },
+        None => Ok(()),
+        Some(outside) => Err(Refusal {
+            line: outside.line,
+            reason: Reason::OutsideDomain { byte: outside.byte },
         }),
     }
 }
 
-pub fn halted_early(text: &[u8]) -> Halt
+pub fn halted_early(text: &[u8]) -> Result<(), Refusal>
     ensures { result ≡ halted_early text.now }
 {
     if LARGEST < text.len() {
-        return Halt::Refused(Refusal {
+        return Err(Refusal {
             line: 0,
             reason: Reason::TextTooLong,
         });

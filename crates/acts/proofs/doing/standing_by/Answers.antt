@@ -1,8 +1,8 @@
 -- Each arm is one case of `standing_by`.
 use Rattle.acts.proofs.doing.standing_by.Goals as goal
 
-pub returns-in-NoRoom : goal.returns-in-NoRoom
-returns-in-NoRoom c = rw c.in-NoRoom.is
+pub returns-in-Err : goal.returns-in-Err
+returns-in-Err c = rw c.in-Err.is
 
-pub returns-in-Done : goal.returns-in-Done
-returns-in-Done c = rw c.in-Done.is
+pub returns-in-Ok : goal.returns-in-Ok
+returns-in-Ok c = rw c.in-Ok.is
