@@ -5,6 +5,7 @@ use denote.Triple.Both.{Both}
 use Rattle.rows.specs.declared.rules.Point3.{Point3}
 use Rattle.field_slices.specs.Clearing.{zero_float, zero_point}
 use Rattle.field_slices.specs.Slice.{Slice, held}
+use Rattle.model.specs.declared.records.Records.{Records}
 use Rattle.model.specs.declared.room.Room.{Room}
 use Rattle.model.specs.Records.{ResidueRecord, AtomRecord, Model}
 
@@ -52,6 +53,10 @@ lent chains = lent_by (held chains)
 abbrev pub passed : MutBor (List ℕ) → MutBor (List ℕ) → MutBor (List ℕ) → MutBor (List ℕ) → MutBor (List ℕ) → MutBor (List ℕ) → MutBor (List ℕ) → MutBor (List ℕ) → MutBor (List ℕ) → MutBor (List (List Float)) → MutBor (List Float) → Lent
 passed chains residue_keys residue_names residue_codes residue_categories residue_positions atom_keys atom_names elements positions occupancies =
     lent_of chains.now residue_keys.now residue_names.now residue_codes.now residue_categories.now residue_positions.now atom_keys.now atom_names.now elements.now positions.now occupancies.now
+
+-- of records that are passed by value
+abbrev pub lent_in : Records → Lent
+lent_in r = lent_of r.chains.now r.residue_keys.now r.residue_names.now r.residue_codes.now r.residue_categories.now r.residue_positions.now r.atom_keys.now r.atom_names.now r.elements.now r.positions.now r.occupancies.now
 
 -- ---- the room in them
 

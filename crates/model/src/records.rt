@@ -1,0 +1,71 @@
+// The records of a model, lent for reading: one shared slice to a field, passed together by value.
+ghost use Rattle.std.specs.Prelude.{◌≡◌};
+ghost use Rattle.model.specs.Lent.{room_of, residue_in, atom_in, lent_in};
+ghost use Rattle.model.specs.TakenOut.{residue_out, atom_out};
+
+use crate::room::{self, Room};
+use crate::taken_out::{self, Atom, Residue};
+
+#[derive(Clone, Copy)]
+pub struct Records<'a> {
+    pub chains: &'a [u64],
+    pub residue_keys: &'a [u64],
+    pub residue_names: &'a [u64],
+    pub residue_codes: &'a [u8],
+    pub residue_categories: &'a [u8],
+    pub residue_positions: &'a [u8],
+    pub atom_keys: &'a [u64],
+    pub atom_names: &'a [u64],
+    pub elements: &'a [u8],
+    pub positions: &'a [[f64; 3]],
+    pub occupancies: &'a [f64],
+}
+
+impl<'a> Records<'a> {
+    // The room of the lent slices.
+    pub fn room(self) -> Room
+        ensures { result ≡ room_of (lent_in self.entry) }
+    {
+        room::room_of(
+            self.chains.len(),
+            self.residue_keys,
+            self.residue_names,
+            self.residue_codes,
+            self.residue_categories,
+            self.residue_positions,
+            self.atom_keys,
+            self.atom_names,
+            self.elements,
+            self.positions,
+            self.occupancies,
+        )
+    }
+
+    // The residue at an index, by value.
+    pub fn residue_at(self, i: usize) -> Residue
+        ensures { result ≡ residue_out (residue_in (lent_in self.entry) i) }
+    {
+        taken_out::residue_at(
+            self.residue_keys,
+            self.residue_names,
+            self.residue_codes,
+            self.residue_categories,
+            self.residue_positions,
+            i,
+        )
+    }
+
+    // The atom at an index, by value.
+    pub fn atom_at(self, i: usize) -> Atom
+        ensures { result ≡ atom_out (atom_in (lent_in self.entry) i) }
+    {
+        taken_out::atom_at(
+            self.atom_keys,
+            self.atom_names,
+            self.elements,
+            self.positions,
+            self.occupancies,
+            i,
+        )
+    }
+}
