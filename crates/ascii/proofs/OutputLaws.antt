@@ -10,15 +10,16 @@ use lib.Dec.{T, leb, leb→le, nleb→lt}
 use lib.ListN.{length, get_or, take, set, length-append}
 use lib.Seq.{set_comm, sets, take-suc, take_all, length-take-le}
 use borrow.Author.Tests.{le-leb, lt-leb}
-use Rattle.ascii.specs.declared.output.Placed.TheVariants.{Next, NoRoom}
-use Rattle.ascii.specs.Output.{Stored, fits, placed_of, buffer_after}
+use Rattle.std.specs.Prelude.{Result, Ok, Err}
+use Rattle.ascii.specs.declared.output.NoRoom.{NoRoom}
+use Rattle.ascii.specs.Output.{Stored, fits, no_room, placed_of, buffer_after}
 
 module _ (buffer : List ℕ) (at : ℕ) (text : List ℕ) where
-  pub placed_fits : fits buffer at text ≡ true → placed_of buffer at text ≡ Next (at + length text)
+  pub placed_fits : fits buffer at text ≡ true → placed_of buffer at text ≡ Ok (at + length text)
   unfolding placed_of
   placed_fits e = simp e
 
-  pub placed_not : fits buffer at text ≡ false → placed_of buffer at text ≡ NoRoom (length text)
+  pub placed_not : fits buffer at text ≡ false → placed_of buffer at text ≡ Err (no_room (length text))
   unfolding placed_of
   placed_not e = simp e
 
@@ -31,11 +32,11 @@ module _ (buffer : List ℕ) (at : ℕ) (text : List ℕ) where
   after_not e = simp e
 
   -- what a function that puts a text has done, where there was room and where there was none
-  pub put_whole : {after : List ℕ} {next : ℕ} → fits buffer at text ≡ true → Stored buffer at text after next → (Next next ≡ placed_of buffer at text) × (after ≡ buffer_after buffer at text)
-  put_whole e s = (ap Next s.place ∙ sym (placed_fits e), s.bytes ∙ sym (after_fits e))
+  pub put_whole : {after : List ℕ} {next : ℕ} → fits buffer at text ≡ true → Stored buffer at text after next → (Ok next ≡ placed_of buffer at text) × (after ≡ buffer_after buffer at text)
+  put_whole e s = (ap Ok s.place ∙ sym (placed_fits e), s.bytes ∙ sym (after_fits e))
 
-  pub put_nothing : {n : ℕ} → fits buffer at text ≡ false → n ≡ length text → (NoRoom n ≡ placed_of buffer at text) × (buffer ≡ buffer_after buffer at text)
-  put_nothing e h = (ap NoRoom h ∙ sym (placed_not e), sym (after_not e))
+  pub put_nothing : {n : ℕ} → fits buffer at text ≡ false → n ≡ length text → (Err (no_room n) ≡ placed_of buffer at text) × (buffer ≡ buffer_after buffer at text)
+  put_nothing e h = (ap (λ (k : ℕ). Err (no_room k)) h ∙ sym (placed_not e), sym (after_not e))
 
 -- the room that is left, asked without the sum
 pub room_left : (size at n : ℕ) → at ≤ size → leb n (size - at) ≡ leb (at + n) size

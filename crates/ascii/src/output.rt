@@ -2,12 +2,10 @@
 ghost use Rattle.std.specs.Prelude.{◌≡◌, ◌+◌, ◌≤◌, leb, length};
 ghost use Rattle.ascii.specs.Output.{Stored, placed_of, buffer_after};
 
+// Why a text was not put: it needs so many bytes. The buffer is as it was.
 #[derive(Clone, Copy)]
-pub enum Placed {
-    // The text was put there; this is the place after it.
-    Next(usize),
-    // The text needs so many bytes; the buffer is as it was.
-    NoRoom(usize),
+pub struct NoRoom {
+    pub needed: usize,
 }
 
 // Whether n bytes fit from index at on, in a buffer of size bytes. Asked so that no sum can wrap.
@@ -32,13 +30,13 @@ fn store_text(text: &[u8], out: &mut [u8], at: usize) -> usize
     at + i
 }
 
-// The text as it is, from index at on, where it fits.
-pub fn put_text(text: &[u8], out: &mut [u8], at: usize) -> Placed
+// The text as it is, from index at on, where it fits; the answer is the place after it.
+pub fn put_text(text: &[u8], out: &mut [u8], at: usize) -> Result<usize, NoRoom>
     ensures { (result ≡ placed_of out.old at text.now) × (out.new ≡ buffer_after out.old at text.now) }
 {
     let n = text.len();
     if !fits_at(out.len(), at, n) {
-        return Placed::NoRoom(n);
+        return Err(NoRoom { needed: n });
     }
-    Placed::Next(store_text(text, out, at))
+    Ok(store_text(text, out, at))
 }

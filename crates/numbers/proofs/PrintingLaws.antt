@@ -13,12 +13,13 @@ use lib.Seq.{sets}
 use borrow.Author.Tests.{lt-ltb}
 use Rattle.ascii.proofs.OutputLaws.{sets_last}
 use lib.Ieee.{Float}
-use Rattle.ascii.specs.declared.output.Placed.{Placed}
+use Rattle.std.specs.Prelude.{Result, Ok, Err}
+use Rattle.ascii.specs.declared.output.NoRoom.{NoRoom}
 use Rattle.ascii.specs.Output.{placed_of, buffer_after}
-use Rattle.numbers.specs.declared.printing.Printed.TheVariants.{BeyondReach, Put}
+use Rattle.numbers.specs.declared.printing.PrintError.TheVariants as print_error
 use Rattle.numbers.specs.Rounding.{printable, units_of, is_negative}
 use Rattle.numbers.specs.Printing.{last_digits, count_up_to, digit_count, sign, fixed_text, text_of}
-use Rattle.numbers.specs.Writing.{printed_of, after_printing}
+use Rattle.numbers.specs.Writing.{as_printed, printed_of, after_printing}
 use Rattle.numbers.proofs.Comparing.{le_or_lt}
 use Rattle.numbers.proofs.PowerLaws.{ten_grows}
 
@@ -142,16 +143,16 @@ text_of_lem places x {n = n} s u = ap (λ (t : Bool). fixed_text places t n) s �
 
 -- ---- what became of it
 module _ (places : ℕ) (x : Float) (buffer : List ℕ) (at : ℕ) where
-  pub put_none : printable x ≡ false → (BeyondReach ≡ printed_of places x buffer at) × (buffer ≡ after_printing places x buffer at)
+  pub put_none : printable x ≡ false → (Err print_error.BeyondReach ≡ printed_of places x buffer at) × (buffer ≡ after_printing places x buffer at)
   unfolding printed_of after_printing
   put_none e = (sym (simp e), sym (simp e))
 
-  pub put_some : {negative : Bool} {n : ℕ} {r : Placed} {after : List ℕ} → printable x ≡ true → negative ≡ is_negative x → n ≡ units_of places x
+  pub put_some : {negative : Bool} {n : ℕ} {r : Result ℕ NoRoom} {after : List ℕ} → printable x ≡ true → negative ≡ is_negative x → n ≡ units_of places x
       → (r ≡ placed_of buffer at (fixed_text places negative n)) × (after ≡ buffer_after buffer at (fixed_text places negative n))
-      → (Put r ≡ printed_of places x buffer at) × (after ≡ after_printing places x buffer at)
+      → (as_printed r ≡ printed_of places x buffer at) × (after ≡ after_printing places x buffer at)
   unfolding printed_of after_printing
   put_some {negative} {n} e s u p =
       let same : fixed_text places negative n ≡ text_of places x = text_of_lem places x s u in (
-        sym (simp e (ap Put (sym (p.0 ∙ ap (λ (l : List ℕ). placed_of buffer at l) same)))),
+        sym (simp e (ap as_printed (sym (p.0 ∙ ap (λ (l : List ℕ). placed_of buffer at l) same)))),
         sym (simp e (sym (p.1 ∙ ap (λ (l : List ℕ). buffer_after buffer at l) same))),
       )

@@ -10,10 +10,9 @@ use crate::powers::power_of_ten;
 use crate::walking::walk_digits;
 
 #[derive(Clone, Copy)]
-pub enum Number {
+pub enum NumberError {
     OutsideGrammar,
     BeyondReach,
-    Value(f64),
 }
 
 const MOST_DIGITS: usize = 15;
@@ -72,49 +71,49 @@ fn is_near(n: u64, places: usize, p: u64) -> bool
 }
 
 // What at most 15 digits are that write n without their point, so many of them places.
-fn valued(negative: bool, n: u64, places: usize) -> Number
+fn valued(negative: bool, n: u64, places: usize) -> Result<f64, NumberError>
     requires { (n < 1000000000000000) × (places ≤ 15) }
     ensures { result ≡ value_of negative n places }
 {
     let p = power_of_ten(places);
     if is_near(n, places, p) {
-        Number::Value(quotient(negative, n, p))
+        Ok(quotient(negative, n, p))
     } else {
-        Number::BeyondReach
+        Err(NumberError::BeyondReach)
     }
 }
 
 // The digits before the point and those after it.
-fn read_decimal(negative: bool, whole: &[u8], places: &[u8]) -> Number
+fn read_decimal(negative: bool, whole: &[u8], places: &[u8]) -> Result<f64, NumberError>
     ensures { result ≡ read_as (decimal negative whole.now places.now []) }
 {
     if MOST_DIGITS < whole.len() {
-        return Number::BeyondReach;
+        return Err(NumberError::BeyondReach);
     }
     if MOST_DIGITS - whole.len() < places.len() {
-        return Number::BeyondReach;
+        return Err(NumberError::BeyondReach);
     }
     let n = ascii::number_from(ascii::number_from(0, whole), places);
     valued(negative, n, places.len())
 }
 
-fn read_parts(negative: bool, whole: &[u8], places: &[u8], rest: &[u8]) -> Number
+fn read_parts(negative: bool, whole: &[u8], places: &[u8], rest: &[u8]) -> Result<f64, NumberError>
     ensures { result ≡ read_as (parts negative whole.now places.now rest.now) }
 {
     if whole.len() + places.len() == 0 {
-        return Number::OutsideGrammar;
+        return Err(NumberError::OutsideGrammar);
     }
     if rest.len() == 0 {
         return read_decimal(negative, whole, places);
     }
     if is_exponent(rest) {
-        Number::BeyondReach
+        Err(NumberError::BeyondReach)
     } else {
-        Number::OutsideGrammar
+        Err(NumberError::OutsideGrammar)
     }
 }
 
-fn read_after_whole(negative: bool, whole: &[u8], rest: &[u8]) -> Number
+fn read_after_whole(negative: bool, whole: &[u8], rest: &[u8]) -> Result<f64, NumberError>
     ensures { result ≡ read_as (after_whole negative whole.now rest.now) }
 {
     if ascii::byte_at(rest, 0) == b'.' {
@@ -125,18 +124,18 @@ fn read_after_whole(negative: bool, whole: &[u8], rest: &[u8]) -> Number
     read_parts(negative, whole, &rest[0..0], rest)
 }
 
-fn read_unsigned(negative: bool, s: &[u8]) -> Number
+fn read_unsigned(negative: bool, s: &[u8]) -> Result<f64, NumberError>
     ensures { result ≡ read_as (unsigned negative s.now) }
 {
     if is_word(s) {
-        return Number::BeyondReach;
+        return Err(NumberError::BeyondReach);
     }
     let n = ascii::count_digits(s);
     read_after_whole(negative, &s[0..n], &s[n..])
 }
 
 // The same in one walk over what nearly every number is: digits, or digits, a point and digits or none.
-fn read_short(negative: bool, s: &[u8]) -> Number
+fn read_short(negative: bool, s: &[u8]) -> Result<f64, NumberError>
     requires { length s.now ≤ 15 }
     ensures { result ≡ read_as (unsigned negative s.now) }
 {
@@ -160,7 +159,7 @@ fn read_short(negative: bool, s: &[u8]) -> Number
 }
 
 // What a text is as a number.
-pub fn read_number(s: &[u8]) -> Number
+pub fn read_number(s: &[u8]) -> Result<f64, NumberError>
     ensures { result ≡ number_of s.now }
 {
     let negative = ascii::byte_at(s, 0) == b'-';
