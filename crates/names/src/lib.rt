@@ -10,8 +10,5 @@ mod table;
 
 pub use elements::{element_of, symbol_of};
 pub use packing::{after_first, first_byte, pack, unpack};
-pub use residues::{
-    FoundCategory, FoundPosition, FoundResidue, Polymer, ResidueCategory, ResiduePosition,
-    StandardResidue,
-};
+pub use residues::{Polymer, ResidueCategory, ResiduePosition, StandardResidue};
 pub use table::{Resolved, resolve};

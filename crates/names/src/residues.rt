@@ -42,24 +42,11 @@ pub enum StandardResidue {
     HOH,
 }
 
-// What a number says of a residue: which standard one it is, or that it is none.
-#[derive(Clone, Copy)]
-pub enum FoundResidue {
-    Residue(StandardResidue),
-    None,
-}
-
 #[derive(Clone, Copy)]
 pub enum ResidueCategory {
     Standard,
     Hetero,
     Ion,
-}
-
-#[derive(Clone, Copy)]
-pub enum FoundCategory {
-    Category(ResidueCategory),
-    None,
 }
 
 #[derive(Clone, Copy)]
@@ -70,12 +57,6 @@ pub enum ResiduePosition {
     CTerminal,
     FivePrime,
     ThreePrime,
-}
-
-#[derive(Clone, Copy)]
-pub enum FoundPosition {
-    Position(ResiduePosition),
-    None,
 }
 
 // What a residue is a part of.
@@ -179,42 +160,42 @@ impl StandardResidue {
         }
     }
 
-    pub fn of_code(code: u8) -> FoundResidue
+    pub fn of_code(code: u8) -> Option<StandardResidue>
         ensures { result ≡ residue_of code }
     {
         match code {
-            1 => FoundResidue::Residue(StandardResidue::ALA),
-            2 => FoundResidue::Residue(StandardResidue::ARG),
-            3 => FoundResidue::Residue(StandardResidue::ASN),
-            4 => FoundResidue::Residue(StandardResidue::ASP),
-            5 => FoundResidue::Residue(StandardResidue::CYS),
-            6 => FoundResidue::Residue(StandardResidue::GLN),
-            7 => FoundResidue::Residue(StandardResidue::GLU),
-            8 => FoundResidue::Residue(StandardResidue::GLY),
-            9 => FoundResidue::Residue(StandardResidue::HIS),
-            10 => FoundResidue::Residue(StandardResidue::ILE),
-            11 => FoundResidue::Residue(StandardResidue::LEU),
-            12 => FoundResidue::Residue(StandardResidue::LYS),
-            13 => FoundResidue::Residue(StandardResidue::MET),
-            14 => FoundResidue::Residue(StandardResidue::PHE),
-            15 => FoundResidue::Residue(StandardResidue::PRO),
-            16 => FoundResidue::Residue(StandardResidue::SER),
-            17 => FoundResidue::Residue(StandardResidue::THR),
-            18 => FoundResidue::Residue(StandardResidue::TRP),
-            19 => FoundResidue::Residue(StandardResidue::TYR),
-            20 => FoundResidue::Residue(StandardResidue::VAL),
-            21 => FoundResidue::Residue(StandardResidue::A),
-            22 => FoundResidue::Residue(StandardResidue::C),
-            23 => FoundResidue::Residue(StandardResidue::G),
-            24 => FoundResidue::Residue(StandardResidue::U),
-            25 => FoundResidue::Residue(StandardResidue::I),
-            26 => FoundResidue::Residue(StandardResidue::DA),
-            27 => FoundResidue::Residue(StandardResidue::DC),
-            28 => FoundResidue::Residue(StandardResidue::DG),
-            29 => FoundResidue::Residue(StandardResidue::DT),
-            30 => FoundResidue::Residue(StandardResidue::DI),
-            31 => FoundResidue::Residue(StandardResidue::HOH),
-            _ => FoundResidue::None,
+            1 => Some(StandardResidue::ALA),
+            2 => Some(StandardResidue::ARG),
+            3 => Some(StandardResidue::ASN),
+            4 => Some(StandardResidue::ASP),
+            5 => Some(StandardResidue::CYS),
+            6 => Some(StandardResidue::GLN),
+            7 => Some(StandardResidue::GLU),
+            8 => Some(StandardResidue::GLY),
+            9 => Some(StandardResidue::HIS),
+            10 => Some(StandardResidue::ILE),
+            11 => Some(StandardResidue::LEU),
+            12 => Some(StandardResidue::LYS),
+            13 => Some(StandardResidue::MET),
+            14 => Some(StandardResidue::PHE),
+            15 => Some(StandardResidue::PRO),
+            16 => Some(StandardResidue::SER),
+            17 => Some(StandardResidue::THR),
+            18 => Some(StandardResidue::TRP),
+            19 => Some(StandardResidue::TYR),
+            20 => Some(StandardResidue::VAL),
+            21 => Some(StandardResidue::A),
+            22 => Some(StandardResidue::C),
+            23 => Some(StandardResidue::G),
+            24 => Some(StandardResidue::U),
+            25 => Some(StandardResidue::I),
+            26 => Some(StandardResidue::DA),
+            27 => Some(StandardResidue::DC),
+            28 => Some(StandardResidue::DG),
+            29 => Some(StandardResidue::DT),
+            30 => Some(StandardResidue::DI),
+            31 => Some(StandardResidue::HOH),
+            _ => None,
         }
     }
 
@@ -283,18 +264,18 @@ impl ResidueCategory {
         }
     }
 
-    pub fn of_code(code: u8) -> FoundCategory
+    pub fn of_code(code: u8) -> Option<ResidueCategory>
         ensures { result ≡ category_of code }
     {
         if code < 1 {
-            return FoundCategory::None;
+            return None;
         }
         if 3 < code {
-            return FoundCategory::None;
+            return None;
         }
         let i = (code - 1) as usize;
         let category = CATEGORIES[i];
-        FoundCategory::Category(category)
+        Some(category)
     }
 }
 
@@ -327,14 +308,14 @@ impl ResiduePosition {
         }
     }
 
-    pub fn of_code(code: u8) -> FoundPosition
+    pub fn of_code(code: u8) -> Option<ResiduePosition>
         ensures { result ≡ position_of code }
     {
         if 5 < code {
-            return FoundPosition::None;
+            return None;
         }
         let i = code as usize;
         let position = POSITIONS[i];
-        FoundPosition::Position(position)
+        Some(position)
     }
 }

@@ -5,13 +5,7 @@ ghost use Rattle.names.specs.Rows.{in_order, names};
 
 use crate::rows::name_at;
 
-#[derive(Clone, Copy)]
-pub enum Place {
-    At(usize),
-    Nowhere,
-}
-
-pub(crate) fn place_in_order(name: u64) -> Place
+pub(crate) fn place_in_order(name: u64) -> Option<usize>
     ensures { result ≡ place_of name (names in_order) }
 {
     let mut lo = 0;
@@ -25,9 +19,9 @@ pub(crate) fn place_in_order(name: u64) -> Place
             if name < halfway {
                 hi = mid;
             } else {
-                return Place::At(mid);
+                return Some(mid);
             }
         }
     }
-    Place::Nowhere
+    None
 }

@@ -2,33 +2,28 @@
 ghost use Rattle.std.specs.Prelude.{◌≡◌};
 ghost use Rattle.names.specs.Table.{resolve_of};
 
-use crate::residues::{FoundResidue, StandardResidue};
+use crate::residues::StandardResidue;
 use crate::rows::{FOURTH, row_at};
-use crate::search::{Place, place_in_order};
+use crate::search::place_in_order;
 
+// The canonical name, and its standard residue.
 #[derive(Clone, Copy)]
-pub enum Resolved {
-    // The canonical name and its standard residue.
-    Standard { name: u64, residue: StandardResidue },
-    Unresolved,
+pub struct Resolved {
+    pub name: u64,
+    pub residue: StandardResidue,
 }
 
 // What the third of a number's 8 bytes counts.
 const THIRD: u64 = 0x0000_0100_0000_0000;
 
-pub fn resolve(name: u64) -> Resolved
+// What a name leads to; `None` for a name that the table does not have.
+pub fn resolve(name: u64) -> Option<Resolved>
     ensures { result ≡ resolve_of name }
 {
-    let Place::At(i) = place_in_order(name) else {
-        return Resolved::Unresolved;
-    };
-    let row = row_at(i);
-    let target = row % FOURTH / 256 * THIRD;
-    match StandardResidue::of_code((row % 256) as u8) {
-        FoundResidue::Residue(residue) => Resolved::Standard {
-            name: target,
-            residue,
-        },
-        FoundResidue::None => Resolved::Unresolved,
-    }
+    let row = row_at(place_in_order(name)?);
+    let residue = StandardResidue::of_code((row % 256) as u8)?;
+    Some(Resolved {
+        name: row % FOURTH / 256 * THIRD,
+        residue,
+    })
 }
