@@ -1,6 +1,7 @@
 -- The two kinds of record in their slices: what the slices have in an area, whether they have the room, and that they stay as long.
-use Rattle.std.specs.Prelude.{◌≡◌, List, map, ℕ, ◌≤◌, Float, length}
+use Rattle.std.specs.Prelude.{◌≡◌, List, map, ℕ, ◌≤◌, Float, length, get_or}
 use denote.Triple.Both.{Both}
+use Rattle.field_slices.specs.Clearing.{zero_float, zero_point}
 use Rattle.field_slices.specs.Slice.{Slice}
 use Rattle.gapped_slices.specs.Areas.{entries_in}
 use Rattle.gapped_slices.specs.declared.areas.Area.{Area}
@@ -9,6 +10,8 @@ use Rattle.model.specs.Fold.{Residue, Atom}
 use Rattle.model.specs.Lent.{coordinates}
 use Rattle.model.specs.Lists.{count}
 use Rattle.model.specs.Map.{Map}
+use Rattle.building.specs.declared.atoms.AtomEntry.{AtomEntry}
+use Rattle.building.specs.declared.residues.ResidueEntry.{ResidueEntry}
 use Rattle.building.specs.Holds.{HoldsResidues, HoldsAtoms}
 
 -- ---- residues
@@ -20,6 +23,15 @@ pub record ResidueSlices : Type 0 where
 
 abbrev pub residues_of : List ℕ → List ℕ → List ℕ → ResidueSlices
 residues_of keys names marks = record { keys = keys; names = names; marks = marks }
+
+-- a residue by value, at an index of the slices, zeros where there is none
+abbrev pub residue_entry_at : ResidueSlices → ℕ → ResidueEntry
+residue_entry_at r i = record { key = get_or r.keys i 0; name = get_or r.names i 0; mark = get_or r.marks i 0 }
+
+-- it has what a row says of its residue
+pub record IsResidue (e : ResidueEntry) (v : Residue) : Type 0 where
+  pub name : e.name ≡ v.name
+  pub mark : e.mark ≡ count v.hetatm
 
 -- those of a function's parameters, at its entry and at its exit
 abbrev pub residues_by : Slice ℕ → Slice ℕ → Slice ℕ → Both ResidueSlices ResidueSlices
@@ -58,6 +70,22 @@ pub record AtomSlices : Type 0 where
 
 abbrev pub atoms_of : List ℕ → List ℕ → List ℕ → List (List Float) → List Float → AtomSlices
 atoms_of keys names elements positions occupancies = record { keys = keys; names = names; elements = elements; positions = positions; occupancies = occupancies }
+
+-- an atom by value, at an index of the slices, zeros where there is none
+abbrev pub atom_entry_at : AtomSlices → ℕ → AtomEntry
+atom_entry_at r i = record {
+  key = get_or r.keys i 0;
+  name = get_or r.names i 0;
+  element = get_or r.elements i 0;
+  position = get_or r.positions i zero_point;
+  occupancy = get_or r.occupancies i zero_float;
+}
+
+-- it has what a row says of its atom
+pub record IsAtom (e : AtomEntry) (v : Atom) : Type 0 where
+  pub element : e.element ≡ v.element
+  pub position : e.position ≡ coordinates v.position
+  pub occupancy : e.occupancy ≡ v.occupancy
 
 abbrev pub atoms_by : Slice ℕ → Slice ℕ → Slice ℕ → Slice (List Float) → Slice Float → Both AtomSlices AtomSlices
 atoms_by keys names elements positions occupancies = record {

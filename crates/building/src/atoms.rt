@@ -5,22 +5,27 @@ ghost use Rattle.std.specs.Float.{nan};
 ghost use Rattle.gapped_slices.specs.Areas.{PutsIn};
 ghost use Rattle.model.specs.Fold.{Atom};
 ghost use Rattle.model.specs.Keys.{atom_place};
-ghost use Rattle.model.specs.Lent.{coordinates};
-ghost use Rattle.building.specs.Kinds.{atoms_by, AtomsIn, AtomsFirst, AtomsLong, AtomsSame};
+ghost use Rattle.building.specs.Kinds.{atoms_of, atoms_by, atom_entry_at, IsAtom, AtomsIn, AtomsFirst, AtomsLong, AtomsSame};
 ghost use Rattle.building.specs.Stores.{Empties, MakesRoom, PutsNew, Gathered};
 
-use crate::bytes::u8_at;
 use crate::stores::{
-    Store, Way, emptied, entries_of, in_main, in_pocket, way_of, widened, with_entry,
+    Store, Way, emptied, entries_of, in_main, in_pocket, place_of, way_of, widened, with_entry,
 };
-use field_slices::{f64_at, point_at, store_f64, store_point, store_u8, u64_at};
-use gapped_slices::{
-    Area, move_in_f64, move_in_point, move_in_u8, move_in_u64, put_in_f64, put_in_point, put_in_u8,
-    put_in_u64, spot_in, stand,
-};
+use field_slices::{entry_at, store};
+use gapped_slices::{Area, move_in, put_in, spot_in, stand};
+
+// An atom as its slices have it, each field in one of its own.
+#[derive(Clone, Copy)]
+pub(crate) struct AtomEntry {
+    pub key: u64,
+    pub name: u64,
+    pub element: u8,
+    pub position: [f64; 3],
+    pub occupancy: f64,
+}
 
 // One more in an area, at this index.
-fn put_in(
+fn put_atom(
     keys: &mut [u64],
     names: &mut [u64],
     elements: &mut [u8],
@@ -28,23 +33,39 @@ fn put_in(
     occupancies: &mut [f64],
     area: Area,
     at: usize,
-    key: u64,
-    name: u64,
-    element: u8,
-    position: [f64; 3],
-    occupancy: f64,
+    atom: AtomEntry,
 )
-    ensures puts_in { PutsIn area at key keys.old keys.new }
-    ensures puts_in_2 { PutsIn area at name names.old names.new }
-    ensures puts_in_3 { PutsIn area at element elements.old elements.new }
-    ensures puts_in_4 { PutsIn area at position positions.old positions.new }
-    ensures puts_in_5 { PutsIn area at occupancy occupancies.old occupancies.new }
+    ensures puts_in { PutsIn area at atom.key keys.old keys.new }
+    ensures puts_in_2 { PutsIn area at atom.name names.old names.new }
+    ensures puts_in_3 { PutsIn area at atom.element elements.old elements.new }
+    ensures puts_in_4 { PutsIn area at atom.position positions.old positions.new }
+    ensures puts_in_5 { PutsIn area at atom.occupancy occupancies.old occupancies.new }
 {
-    put_in_u64(keys, area, at, key);
-    put_in_u64(names, area, at, name);
-    put_in_u8(elements, area, at, element);
-    put_in_point(positions, area, at, position);
-    put_in_f64(occupancies, area, at, occupancy);
+    put_in(keys, area, at, atom.key);
+    put_in(names, area, at, atom.name);
+    put_in(elements, area, at, atom.element);
+    put_in(positions, area, at, atom.position);
+    put_in(occupancies, area, at, atom.occupancy);
+}
+
+// The atom at this index of the slices, zero in each field where there is none.
+fn atom_at(
+    keys: &[u64],
+    names: &[u64],
+    elements: &[u8],
+    positions: &[[f64; 3]],
+    occupancies: &[f64],
+    at: usize,
+) -> AtomEntry
+    ensures { result ≡ atom_entry_at (atoms_of keys.now names.now elements.now positions.now occupancies.now) at }
+{
+    AtomEntry {
+        key: entry_at(keys, at, 0),
+        name: entry_at(names, at, 0),
+        element: entry_at(elements, at, 0),
+        position: entry_at(positions, at, [0.0; 3]),
+        occupancy: entry_at(occupancies, at, 0.0),
+    }
 }
 
 // Those of the pocket go over into main in their order, in one sweep of its gap.
@@ -60,33 +81,22 @@ fn empty_pocket(
         Empties (AtomsSame l.entry l.exit) (AtomsLong l.entry) (AtomsIn l.entry) (AtomsIn l.exit) store result }
 {
     let pocket = store.pocket;
-    let many = entries_of(pocket);
     let mut main = store.main;
-    let mut k = 0;
-    while k < many {
-        let at = stand(pocket, k);
-        let key = u64_at(keys, at);
-        let name = u64_at(names, at);
-        let element = u8_at(elements, at);
-        let position = point_at(positions, at);
-        let occupancy = f64_at(occupancies, at);
-        let spot = spot_in(keys, names, main, key, name);
-        put_in(
+    for k in 0..entries_of(pocket) {
+        let from = stand(pocket, k);
+        let atom = atom_at(keys, names, elements, positions, occupancies, from);
+        let at = place_of(spot_in(keys, names, main, atom.key, atom.name));
+        put_atom(
             keys,
             names,
             elements,
             positions,
             occupancies,
             main,
-            spot.front,
-            key,
-            name,
-            element,
-            position,
-            occupancy,
+            at,
+            atom,
         );
-        main = with_entry(main, spot.front);
-        k += 1;
+        main = with_entry(main, at);
     }
     Store {
         main,
@@ -122,20 +132,15 @@ pub(crate) fn put_new_atom(
     room: usize,
     store: Store,
     at: usize,
-    key: u64,
-    name: u64,
-    element: u8,
-    position: [f64; 3],
-    occupancy: f64,
+    atom: AtomEntry,
 ) -> Store
-    ensures { (v : Atom) → element ≡ v.element → position ≡ coordinates v.position → occupancy ≡ v.occupancy → let l = atoms_by keys names elements positions occupancies in
-        PutsNew (AtomsSame l.entry l.exit) (AtomsLong l.entry) (AtomsIn l.entry) (AtomsIn l.exit) room store at (atom_place key name) v result }
+    ensures { (v : Atom) → IsAtom atom v → let l = atoms_by keys names elements positions occupancies in
+        PutsNew (AtomsSame l.entry l.exit) (AtomsLong l.entry) (AtomsIn l.entry) (AtomsIn l.exit) room store at (atom_place atom.key atom.name) v result }
 {
-    let way = way_of(store, at);
-    match way {
+    match way_of(store, at) {
         Way::Main => {
             let main = store.main;
-            put_in(
+            put_atom(
                 keys,
                 names,
                 elements,
@@ -143,52 +148,40 @@ pub(crate) fn put_new_atom(
                 occupancies,
                 main,
                 at,
-                key,
-                name,
-                element,
-                position,
-                occupancy,
+                atom,
             );
             in_main(store, at)
         }
         Way::Pocket => {
             let pocket = store.pocket;
-            let spot = spot_in(keys, names, pocket, key, name);
-            put_in(
+            let at = place_of(spot_in(keys, names, pocket, atom.key, atom.name));
+            put_atom(
                 keys,
                 names,
                 elements,
                 positions,
                 occupancies,
                 pocket,
-                spot.front,
-                key,
-                name,
-                element,
-                position,
-                occupancy,
+                at,
+                atom,
             );
-            in_pocket(store, spot.front)
+            in_pocket(store, at)
         }
         Way::Emptied => {
             let store = make_room(keys, names, elements, positions, occupancies, room, store);
             let main = store.main;
-            let spot = spot_in(keys, names, main, key, name);
-            put_in(
+            let at = place_of(spot_in(keys, names, main, atom.key, atom.name));
+            put_atom(
                 keys,
                 names,
                 elements,
                 positions,
                 occupancies,
                 main,
-                spot.front,
-                key,
-                name,
-                element,
-                position,
-                occupancy,
+                at,
+                atom,
             );
-            in_main(store, spot.front)
+            in_main(store, at)
         }
     }
 }
@@ -210,20 +203,18 @@ pub(crate) fn replace_atom(
     positions: &mut [[f64; 3]],
     occupancies: &mut [f64],
     at: usize,
-    element: u8,
-    position: [f64; 3],
-    occupancy: f64,
+    atom: AtomEntry,
 )
-    ensures elements_after { elements.new ≡ cond (lt (get_or occupancies.old at nan) occupancy) (set elements.old at element) elements.old }
-    ensures positions_after { positions.new ≡ cond (lt (get_or occupancies.old at nan) occupancy) (set positions.old at position) positions.old }
-    ensures occupancies_after { occupancies.new ≡ cond (lt (get_or occupancies.old at nan) occupancy) (set occupancies.old at occupancy) occupancies.old }
+    ensures elements_after { elements.new ≡ cond (lt (get_or occupancies.old at nan) atom.occupancy) (set elements.old at atom.element) elements.old }
+    ensures positions_after { positions.new ≡ cond (lt (get_or occupancies.old at nan) atom.occupancy) (set positions.old at atom.position) positions.old }
+    ensures occupancies_after { occupancies.new ≡ cond (lt (get_or occupancies.old at nan) atom.occupancy) (set occupancies.old at atom.occupancy) occupancies.old }
 {
-    if !is_less_at(occupancies, at, occupancy) {
+    if !is_less_at(occupancies, at, atom.occupancy) {
         return;
     }
-    store_u8(elements, at, element);
-    store_point(positions, at, position);
-    store_f64(occupancies, at, occupancy);
+    store(elements, at, atom.element);
+    store(positions, at, atom.position);
+    store(occupancies, at, atom.occupancy);
 }
 
 // All of them to the front.
@@ -241,9 +232,9 @@ pub(crate) fn gather_atoms(
     let store = empty_pocket(keys, names, elements, positions, occupancies, store);
     let main = store.main;
     let many = entries_of(main);
-    move_in_u64(keys, main, many);
-    move_in_u64(names, main, many);
-    move_in_u8(elements, main, many);
-    move_in_point(positions, main, many);
-    move_in_f64(occupancies, main, many);
+    move_in(keys, main, many);
+    move_in(names, main, many);
+    move_in(elements, main, many);
+    move_in(positions, main, many);
+    move_in(occupancies, main, many);
 }

@@ -2,35 +2,50 @@
 ghost use Rattle.std.specs.Prelude.{◌≡◌};
 ghost use Rattle.gapped_slices.specs.Areas.{PutsIn};
 ghost use Rattle.model.specs.Fold.{Residue};
-ghost use Rattle.model.specs.Lists.{count};
-ghost use Rattle.building.specs.Kinds.{residues_by, ResiduesIn, ResiduesFirst, ResiduesLong, ResiduesSame};
+ghost use Rattle.building.specs.Kinds.{residues_of, residues_by, residue_entry_at, IsResidue, ResiduesIn, ResiduesFirst, ResiduesLong, ResiduesSame};
 ghost use Rattle.building.specs.Stores.{Empties, MakesRoom, PutsNew, Gathered};
 
-use crate::bytes::u8_at;
 use crate::stores::{
-    Store, Way, emptied, entries_of, in_main, in_pocket, way_of, widened, with_entry,
+    Store, Way, emptied, entries_of, in_main, in_pocket, place_of, way_of, widened, with_entry,
 };
-use field_slices::u64_at;
-use gapped_slices::{Area, move_in_u8, move_in_u64, put_in_u8, put_in_u64, spot_in_key, stand};
+use field_slices::entry_at;
+use gapped_slices::{Area, move_in, put_in, spot_in_key, stand};
+
+// A residue as its slices have it, each field in one of its own.
+#[derive(Clone, Copy)]
+pub(crate) struct ResidueEntry {
+    pub key: u64,
+    pub name: u64,
+    pub mark: u8,
+}
 
 // One more in an area, at this index.
-fn put_in(
+fn put_residue(
     keys: &mut [u64],
     names: &mut [u64],
     marks: &mut [u8],
     area: Area,
     at: usize,
-    key: u64,
-    name: u64,
-    mark: u8,
+    residue: ResidueEntry,
 )
-    ensures puts_in { PutsIn area at key keys.old keys.new }
-    ensures puts_in_2 { PutsIn area at name names.old names.new }
-    ensures puts_in_3 { PutsIn area at mark marks.old marks.new }
+    ensures puts_in { PutsIn area at residue.key keys.old keys.new }
+    ensures puts_in_2 { PutsIn area at residue.name names.old names.new }
+    ensures puts_in_3 { PutsIn area at residue.mark marks.old marks.new }
 {
-    put_in_u64(keys, area, at, key);
-    put_in_u64(names, area, at, name);
-    put_in_u8(marks, area, at, mark);
+    put_in(keys, area, at, residue.key);
+    put_in(names, area, at, residue.name);
+    put_in(marks, area, at, residue.mark);
+}
+
+// The residue at this index of the slices, zero in each field where there is none.
+fn residue_at(keys: &[u64], names: &[u64], marks: &[u8], at: usize) -> ResidueEntry
+    ensures { result ≡ residue_entry_at (residues_of keys.now names.now marks.now) at }
+{
+    ResidueEntry {
+        key: entry_at(keys, at, 0),
+        name: entry_at(names, at, 0),
+        mark: entry_at(marks, at, 0),
+    }
 }
 
 // Those of the pocket go over into main in their order, in one sweep of its gap.
@@ -39,18 +54,13 @@ fn empty_pocket(keys: &mut [u64], names: &mut [u64], marks: &mut [u8], store: St
         Empties (ResiduesSame l.entry l.exit) (ResiduesLong l.entry) (ResiduesIn l.entry) (ResiduesIn l.exit) store result }
 {
     let pocket = store.pocket;
-    let many = entries_of(pocket);
     let mut main = store.main;
-    let mut k = 0;
-    while k < many {
-        let at = stand(pocket, k);
-        let key = u64_at(keys, at);
-        let name = u64_at(names, at);
-        let mark = u8_at(marks, at);
-        let spot = spot_in_key(keys, main, key);
-        put_in(keys, names, marks, main, spot.front, key, name, mark);
-        main = with_entry(main, spot.front);
-        k += 1;
+    for k in 0..entries_of(pocket) {
+        let from = stand(pocket, k);
+        let residue = residue_at(keys, names, marks, from);
+        let at = place_of(spot_in_key(keys, main, residue.key));
+        put_residue(keys, names, marks, main, at, residue);
+        main = with_entry(main, at);
     }
     Store {
         main,
@@ -82,32 +92,29 @@ pub(crate) fn put_new_residue(
     room: usize,
     store: Store,
     at: usize,
-    key: u64,
-    name: u64,
-    mark: u8,
+    residue: ResidueEntry,
 ) -> Store
-    ensures { (v : Residue) → name ≡ v.name → mark ≡ count v.hetatm → let l = residues_by keys names marks in
-        PutsNew (ResiduesSame l.entry l.exit) (ResiduesLong l.entry) (ResiduesIn l.entry) (ResiduesIn l.exit) room store at key v result }
+    ensures { (v : Residue) → IsResidue residue v → let l = residues_by keys names marks in
+        PutsNew (ResiduesSame l.entry l.exit) (ResiduesLong l.entry) (ResiduesIn l.entry) (ResiduesIn l.exit) room store at residue.key v result }
 {
-    let way = way_of(store, at);
-    match way {
+    match way_of(store, at) {
         Way::Main => {
             let main = store.main;
-            put_in(keys, names, marks, main, at, key, name, mark);
+            put_residue(keys, names, marks, main, at, residue);
             in_main(store, at)
         }
         Way::Pocket => {
             let pocket = store.pocket;
-            let spot = spot_in_key(keys, pocket, key);
-            put_in(keys, names, marks, pocket, spot.front, key, name, mark);
-            in_pocket(store, spot.front)
+            let at = place_of(spot_in_key(keys, pocket, residue.key));
+            put_residue(keys, names, marks, pocket, at, residue);
+            in_pocket(store, at)
         }
         Way::Emptied => {
             let store = make_room(keys, names, marks, room, store);
             let main = store.main;
-            let spot = spot_in_key(keys, main, key);
-            put_in(keys, names, marks, main, spot.front, key, name, mark);
-            in_main(store, spot.front)
+            let at = place_of(spot_in_key(keys, main, residue.key));
+            put_residue(keys, names, marks, main, at, residue);
+            in_main(store, at)
         }
     }
 }
@@ -120,7 +127,7 @@ pub(crate) fn gather_residues(keys: &mut [u64], names: &mut [u64], marks: &mut [
     let store = empty_pocket(keys, names, marks, store);
     let main = store.main;
     let many = entries_of(main);
-    move_in_u64(keys, main, many);
-    move_in_u64(names, main, many);
-    move_in_u8(marks, main, many);
+    move_in(keys, main, many);
+    move_in(names, main, many);
+    move_in(marks, main, many);
 }

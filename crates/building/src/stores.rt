@@ -2,7 +2,7 @@
 // it in the pocket behind. A full pocket is emptied into main, in one sweep of its gap, so that no order of rows costs more than a few moves of main's gap.
 ghost use Rattle.std.specs.Prelude.{◌≡◌, ℕ, suc, ◌-◌, ◌^◌, ◌≤◌, ◌<◌, ltb};
 ghost use Rattle.gapped_slices.specs.Areas.{many, one_more_at};
-ghost use Rattle.building.specs.Stores.{no_store, emptied_area, distance_to, is_far, earned_with, Lays, InMain, InPocket, Leads, Widened};
+ghost use Rattle.building.specs.Stores.{no_store, emptied_area, place_of, distance_to, is_far, earned_with, Lays, InMain, InPocket, Leads, Widened};
 
 use crate::held::rest;
 use field_slices::smaller;
@@ -90,6 +90,16 @@ pub(crate) fn with_entry(area: Area, at: usize) -> Area
         to: area.to,
         front: at + 1,
         behind: n - at,
+    }
+}
+
+// Where an entry goes by what a look for it says; the same as one that is there, where there is one.
+pub(crate) fn place_of(spot: Result<usize, usize>) -> usize
+    ensures { result ≡ place_of spot }
+{
+    match spot {
+        Ok(i) => i,
+        Err(i) => i,
     }
 }
 

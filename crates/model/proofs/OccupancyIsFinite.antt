@@ -15,7 +15,6 @@ use Rattle.tokens.specs.Tokens.{token_at}
 use Rattle.token_values.specs.Words.{is_missing}
 use Rattle.rows.specs.declared.columns.Columns.{Columns}
 use Rattle.rows.specs.declared.fields.Measure.TheVariants.{Missing, Given}
-use Rattle.rows.specs.declared.rules.Row.TheVariants.{Kept}
 use Rattle.rows.specs.declared.rules.Site.{Site}
 use Rattle.rows.specs.Columns.{is_absent}
 use Rattle.rows.specs.Columns as columns
@@ -59,7 +58,7 @@ unfolding of_bits
 one_finite = tt
 
 -- ---- the theorem
-pub occupancy_is_finite : (settings : Settings) (c : Columns) (line : List ℕ) (s : Site) → row_of settings (fields_of c line) ≡ Kept s → Finite s.occupancy
+pub occupancy_is_finite : (settings : Settings) (c : Columns) (line : List ℕ) (s : Site) → row_of settings (fields_of c line) ≡ Ok (Some s) → Finite s.occupancy
 unfolding fields_of
 occupancy_is_finite settings c line s e = finite s.occupancy (kept_only settings (fields_of c line) s e).read.occupancy
   where

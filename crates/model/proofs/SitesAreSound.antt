@@ -25,7 +25,6 @@ use Rattle.names.proofs.ElementsAtMost118.{elements_at_most_118}
 use Rattle.names.proofs.PackingIsOneToOne.{Letters, packed_fits, unpacked_packed, one_to_one}
 use Rattle.rows.specs.declared.columns.Columns.{Columns}
 use Rattle.rows.specs.declared.fields.Measure.TheVariants.{Given}
-use Rattle.rows.specs.declared.rules.Row.TheVariants.{Kept}
 use Rattle.rows.specs.declared.rules.Site.{Site}
 use Rattle.rows.specs.Columns.{is_absent}
 use Rattle.rows.specs.Columns as columns
@@ -139,7 +138,7 @@ near_of : (token : List ℕ) (v : Float) → measure_of token ≡ Given (Value v
 near_of token v e = value_is_printable token v (given_number token (Value v) e)
 
 -- ---- the theorem
-pub sites_are_sound : (settings : Settings) (columns : Columns) (line : List ℕ) (s : Site) → every is_text_byte line ≡ true → row_of settings (fields_of columns line) ≡ Kept s → Sound s
+pub sites_are_sound : (settings : Settings) (columns : Columns) (line : List ℕ) (s : Site) → every is_text_byte line ≡ true → row_of settings (fields_of columns line) ≡ Ok (Some s) → Sound s
 unfolding fields_of
 sites_are_sound settings c line s h e =
     let k = kept_only settings (fields_of c line) s e in

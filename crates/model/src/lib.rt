@@ -13,6 +13,6 @@ pub use classes::{Class, class_of};
 pub use keys::{chain_part, code_part, residue_key, sequence_part};
 pub use neighbours::{is_alone, met_with, pass_lesser, position_between};
 pub use records::Records;
-pub use room::{Lack, Room, no_records, room_by, room_of};
+pub use room::{Room, no_records, room_by, room_of};
 pub use taken_out::{Atom, Residue, atom_at, residue_at};
 pub use termini::is_polymer;

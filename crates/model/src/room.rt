@@ -3,20 +3,12 @@ ghost use Rattle.std.specs.Prelude.{List, ◌≡◌, ℕ, min, length};
 ghost use Rattle.model.specs.Lent.{lent_of, room_by, room_of, no_records};
 
 use field_slices::smaller;
-use refusals::RecordKind;
 
 #[derive(Clone, Copy)]
 pub struct Room {
     pub chains: usize,
     pub residues: usize,
     pub atoms: usize,
-}
-
-// What a row lacks room for.
-#[derive(Clone, Copy)]
-pub enum Lack {
-    Nothing,
-    Of(RecordKind),
 }
 
 pub fn no_records() -> Room

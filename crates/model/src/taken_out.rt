@@ -4,8 +4,7 @@ ghost use Rattle.model.specs.Lent.{point_of, residue_from, atom_from};
 ghost use Rattle.model.specs.TakenOut.{signed, residue_out, atom_out};
 
 use crate::keys::{chain_part, code_part, sequence_part};
-use ascii::byte_at;
-use field_slices::{f64_at, point_at, u64_at};
+use field_slices::entry_at;
 use rows::Point3;
 
 #[derive(Clone, Copy)]
@@ -59,15 +58,15 @@ pub fn residue_at(
 ) -> Residue
     ensures { result ≡ residue_out (residue_from keys.now names.now codes.now categories.now positions.now i) }
 {
-    let key = u64_at(keys, i);
+    let key = entry_at(keys, i, 0);
     Residue {
         chain: chain_part(key),
         sequence: signed(sequence_part(key)),
         insertion_code: code_part(key),
-        name: u64_at(names, i),
-        code: byte_at(codes, i),
-        category: byte_at(categories, i),
-        position: byte_at(positions, i),
+        name: entry_at(names, i, 0),
+        code: entry_at(codes, i, 0),
+        category: entry_at(categories, i, 0),
+        position: entry_at(positions, i, 0),
     }
 }
 
@@ -82,10 +81,10 @@ pub fn atom_at(
     ensures { result ≡ atom_out (atom_from keys.now names.now elements.now positions.now occupancies.now i) }
 {
     Atom {
-        key: u64_at(keys, i),
-        name: u64_at(names, i),
-        element: byte_at(elements, i),
-        position: point_of(point_at(positions, i)),
-        occupancy: f64_at(occupancies, i),
+        key: entry_at(keys, i, 0),
+        name: entry_at(names, i, 0),
+        element: entry_at(elements, i, 0),
+        position: point_of(entry_at(positions, i, [0.0; 3])),
+        occupancy: entry_at(occupancies, i, 0.0),
     }
 }
