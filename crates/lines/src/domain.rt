@@ -41,20 +41,14 @@ fn walk_to_outside(text: &[u8]) -> Option<Outside>
     ensures { result ≡ outside_of text.now }
 {
     let mut line = 1;
-    let mut i = 0;
-    while i < text.len() {
-        match line_behind(text, i, line) {
-            Some(next) => {
-                line = next;
-            }
-            None => {
-                return Some(Outside {
-                    line,
-                    byte: text[i],
-                });
-            }
-        }
-        i += 1;
+    for i in 0..text.len() {
+        let Some(next) = line_behind(text, i, line) else {
+            return Some(Outside {
+                line,
+                byte: text[i],
+            });
+        };
+        line = next;
     }
     None
 }
