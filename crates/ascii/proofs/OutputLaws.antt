@@ -10,8 +10,7 @@ use lib.Dec.{T, leb, leb→le, nleb→lt}
 use lib.ListN.{length, get_or, take, set, length-append}
 use lib.Seq.{set_comm, sets, take-suc, take_all, length-take-le}
 use borrow.Author.Tests.{le-leb, lt-leb}
-use Rattle.std.specs.Prelude.{Result, Ok, Err}
-use Rattle.ascii.specs.declared.output.NoRoom.{NoRoom}
+use Rattle.std.specs.Prelude.{Ok, Err}
 use Rattle.ascii.specs.Output.{Stored, fits, no_room, placed_of, buffer_after}
 
 module _ (buffer : List ℕ) (at : ℕ) (text : List ℕ) where

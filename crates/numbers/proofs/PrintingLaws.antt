@@ -13,7 +13,7 @@ use lib.Seq.{sets}
 use borrow.Author.Tests.{lt-ltb}
 use Rattle.ascii.proofs.OutputLaws.{sets_last}
 use lib.Ieee.{Float}
-use Rattle.std.specs.Prelude.{Result, Ok, Err}
+use Rattle.std.specs.Prelude.{Result, Err}
 use Rattle.ascii.specs.declared.output.NoRoom.{NoRoom}
 use Rattle.ascii.specs.Output.{placed_of, buffer_after}
 use Rattle.numbers.specs.declared.printing.PrintError.TheVariants as print_error
