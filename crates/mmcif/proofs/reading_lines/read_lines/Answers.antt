@@ -42,7 +42,7 @@ loop-settings-smaller c =
     let l = c.take_run-stage.new in
     less_left (c.loop-settings.invariant _ (begins a.text.now a.settings a.room _ a.halt c.first_row-stage.result c.first_row-stage.ensures))
     c.waits.result c.waits.ensures c.loop-settings-test.true c.chain_in-name.result c.chain_place-place.result c.chain_in-name.ensures c.chain_place-place.ensures
-    c.store_u64.new.words c.store_u64.ensures c.take_run-stage.result
+    c.store.new.slice c.store.ensures c.take_run-stage.result
     (λ chains. records_of chains l.residue_keys l.residue_names l.residue_marks l.atom_keys l.atom_names l.elements l.positions l.occupancies)
     (c.take_run-stage.ensures _)
 
@@ -52,7 +52,7 @@ loop-settings-preserved c =
     λ target u.
     one_run (c.loop-settings.invariant target u)
     c.waits.result c.waits.ensures c.loop-settings-test.true c.chain_in-name.result c.chain_place-place.result c.chain_in-name.ensures c.chain_place-place.ensures
-    c.store_u64.new.words c.store_u64.ensures c.take_run-stage.result
+    c.store.new.slice c.store.ensures c.take_run-stage.result
     (λ chains. records_of chains l.residue_keys l.residue_names l.residue_marks l.atom_keys l.atom_names l.elements l.positions l.occupancies)
     (c.take_run-stage.ensures _)
 

@@ -4,12 +4,13 @@ use mathlib.Core.List.{List}
 use Prim.Native.Nat.{ℕ}
 use lib.ListN.{set, length-set}
 use Rattle.building.specs.Holds.{Records, records_of}
+use Rattle.std.specs.Prelude.{Option}
 use Rattle.mmcif.specs.declared.stages.Waiting.{Waiting}
 use Rattle.mmcif.specs.Stages.{chain_in, PutBy}
 use Rattle.mmcif.proofs.stages.put_waiting.Goals as goal
 
-pub returns-in-Nothing : goal.returns-in-Nothing
-returns-in-Nothing c =
+pub returns-in-None : goal.returns-in-None
+returns-in-None c =
     let a = c.args in
     λ chains.
     let entry : List ℕ → Records
@@ -26,11 +27,11 @@ returns-in-Nothing c =
         positions = refl;
         occupancies = refl;
       };
-      puts = subst (λ (w : Waiting). PutBy w a.room a.found a.stage a.stage.standing (entry chains) (entry (set chains a.found (chain_in a.stage.waiting)))) (sym c.in-Nothing.is) refl;
+      puts = subst (λ (w : Option Waiting). PutBy w a.room a.found a.stage a.stage.standing (entry chains) (entry (set chains a.found (chain_in a.stage.waiting)))) (sym c.in-None.is) refl;
     }
 
-pub returns-in-Row : goal.returns-in-Row
-returns-in-Row c =
+pub returns-in-Some : goal.returns-in-Some
+returns-in-Some c =
     let a = c.args in
     let l = c.keep_site.new in
     λ chains.
@@ -50,5 +51,5 @@ returns-in-Row c =
         positions = c.keep_site.auto.positions;
         occupancies = c.keep_site.auto.occupancies;
       };
-      puts = subst (λ (w : Waiting). PutBy w a.room a.found a.stage c.keep_site.result entry (after (chain_in w))) (sym c.in-Row.is) (c.keep_site.ensures chains);
+      puts = subst (λ (w : Option Waiting). PutBy w a.room a.found a.stage c.keep_site.result entry (after (chain_in w))) (sym c.in-Some.is) (c.keep_site.ensures chains);
     }

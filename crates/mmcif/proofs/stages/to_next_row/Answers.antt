@@ -1,20 +1,20 @@
 -- One line after the other, while none waits.
+use Prim.{tt}
 use mathlib.Core.Path.{◌≡◌, refl, sym, ap, ◌∙◌, subst}
 use Prim.Native.Nat.{ℕ, suc, ◌-◌, ◌^◌, ◌<◌}
 use native.Mathlib.Omega.{arith}
 use mathlib.Core.List.{List}
 use lib.ListN.{length, take, drop}
+use Rattle.std.specs.Prelude.{Some, None, Ok}
 use Rattle.lines.specs.Lines.{LineAt}
 use Rattle.lines.specs.declared.lines.Line.{Line}
 use Rattle.rows.specs.declared.rules.Site.{Site}
 use Rattle.rows.specs.declared.settings.Settings.{Settings}
 use Rattle.acts.specs.Standing.{passed_at}
 use Rattle.acts.specs.declared.act.Act.TheVariants.{Keep}
-use Rattle.acts.specs.declared.doing.Halt.TheVariants.{Going}
 use Rattle.acts.specs.declared.doing.Standing.{Standing}
 use Rattle.mmcif.specs.declared.plans.Plan.{Plan}
 use Rattle.mmcif.specs.declared.stages.Stage.{Stage}
-use Rattle.mmcif.specs.declared.stages.Waiting.TheVariants.{Nothing, Row}
 use Rattle.mmcif.specs.Plans.{plan_of}
 use Rattle.mmcif.specs.Stages.{onward_to, number_after, stage_at, GoesOnTo}
 use Rattle.mmcif.proofs.NextLineLaws.{waiting_by, stage_with, none_kept}
@@ -23,7 +23,7 @@ use Rattle.mmcif.proofs.stages.to_next_row.Goals as goal
 
 -- ---- a line whose row does not wait, and the stage after it
 module _ (text : List ℕ) (settings : Settings) (here : Stage) (small : suc (length text) < 2 ^ 64) (more : here.at < length text) (line : Line) (there : LineAt text here.at line)
-    (plan : Plan) (planned : plan ≡ plan_of settings here.heads (take (line.end - here.at) (drop here.at text))) (none : waiting_by here.number plan.act ≡ Nothing)
+    (plan : Plan) (planned : plan ≡ plan_of settings here.heads (take (line.end - here.at) (drop here.at text))) (none : waiting_by here.number plan.act ≡ None)
     (standing : Standing) (passed : standing ≡ passed_at here.number here.standing.held plan.act)
     (at : ℕ) (onward : at ≡ onward_to standing.halt line.next (length text)) (number : ℕ) (counted : number ≡ number_after here.number) where
   next_is : stage_with text settings here small more line there plan.act ≡ stage_at at number plan.heads standing
@@ -48,15 +48,15 @@ module _ (text : List ℕ) (settings : Settings) (here : Stage) (small : suc (le
 row_waits : (text : List ℕ) (settings : Settings) (from here : Stage) (w : OnTheWay text settings from here) (small : suc (length text) < 2 ^ 64) (more : here.at < length text) (line : Line)
     (there : LineAt text here.at line) (plan : Plan) → plan ≡ plan_of settings here.heads (take (line.end - here.at) (drop here.at text)) → (site : Site) → plan.act ≡ Keep site
     → (number : ℕ) → number ≡ number_after here.number
-    → GoesOnTo text settings from (record { at = line.next; number = number; heads = plan.heads; standing = record { held = here.standing.held; halt = Going }; waiting = Row here.number site })
+    → GoesOnTo text settings from (record { at = line.next; number = number; heads = plan.heads; standing = record { held = here.standing.held; halt = Ok tt }; waiting = Some (record { line = here.number; site = site }) })
 row_waits text settings from here w small more line there plan planned site keeps number counted =
     subst (GoesOnTo text settings from)
     (λ i. record {
       at = line.next;
       number = sym counted i;
       heads = (sym planned i).heads;
-      standing = record { held = here.standing.held; halt = Going };
-      waiting = Row here.number site;
+      standing = record { held = here.standing.held; halt = Ok tt };
+      waiting = Some (record { line = here.number; site = site });
     })
     (row_met text settings small from here w more line there (Keep site) (ap (λ (p : Plan). p.act) (sym planned) ∙ keeps) refl)
 

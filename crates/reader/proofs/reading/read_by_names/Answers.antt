@@ -24,5 +24,5 @@ returns c =
     n.atom_keys n.atom_names n.elements n.positions n.occupancies in
     let whole = read_whole a.text.now (acts_of a.settings a.text.now) (acts_are_sound a.settings a.text.now) entry _ _ m.result h.result l.result _
     (m.ensures a.chains.now refl) h.ensures l.ensures refl refl (k.ensures names) in
-    let chains = c.clear_u64_from.ensures ∙ ap (λ (n : ℕ). cleared 0 n names) c.chains_left.ensures in
+    let chains = c.clear_from.ensures ∙ ap (λ (n : ℕ). cleared 0 n names) c.chains_left.ensures in
     (whole.0, ap after chains ∙ whole.1)
