@@ -8,14 +8,13 @@ use Prim.Native.Nat.{ℕ, ◌+◌, ◌-◌, ◌≤◌, ◌<◌}
 use native.Mathlib.Nat.{not-suc-le-zero, eq-or-lt_of_le}
 use native.Mathlib.Omega.{arith}
 use lib.ListN.{length, get_or}
-use Rattle.field_slices.specs.declared.places.Place.{Place}
-use Rattle.field_slices.specs.declared.places.Place.TheVariants.{At, Before}
+use Rattle.std.specs.Prelude.{Result, Ok, Err}
 use Rattle.field_slices.specs.Places.{Ascending, Found, Narrowed}
 use Rattle.field_slices.proofs.OrderLaws.{Order}
 use Rattle.field_slices.proofs.PlaceLaws.{get_d_any, ascending_at, place_before, place_at}
 
 -- the same list, said otherwise
-pub found_in : {A : Type 0} {less : A → A → Bool} {l m : List A} {c : A} {r : Place} → l ≡ m → Found less l c r → Found less m c r
+pub found_in : {A : Type 0} {less : A → A → Bool} {l m : List A} {c : A} {r : Result ℕ ℕ} → l ≡ m → Found less l c r → Found less m c r
 found_in {A} {less} {l} {m} {c} {r} e f = subst (λ (k : List A). Found less k c r) e f
 
 module _ {A : Type 0} {less : A → A → Bool} (o : Order less) (d : A) where
@@ -58,7 +57,7 @@ module _ {A : Type 0} {less : A → A → Bool} (o : Order less) (d : A) where
     }
 
     -- the search ends at an entry x that is c, or with no entries left
-    pub found_at : {lo hi mid : ℕ} {x : A} → Narrowed less d c l n lo hi → mid < hi → get_or l mid d ≡ x → less x c ≡ false → less c x ≡ false → Found less l c (At mid)
+    pub found_at : {lo hi mid : ℕ} {x : A} → Narrowed less d c l n lo hi → mid < hi → get_or l mid d ≡ x → less x c ≡ false → less c x ≡ false → Found less l c (Ok mid)
     found_at {lo} {hi} {mid} {x} w h e p q =
         let r : mid < length l = omega (arith, w.count, w.high) in
         let f : get_or l mid d ≡ c = e ∙ o.same x c p q in
@@ -67,7 +66,7 @@ module _ {A : Type 0} {less : A → A → Bool} (o : Order less) (d : A) where
           place = λ s. sym (place_at o d c l mid r (λ j k. subst (λ (y : A). less (get_or l j d) y ≡ true) f (ascending_at o d l s j mid k r)) f);
         }
 
-    pub found_before : {lo hi : ℕ} → Narrowed less d c l n lo hi → hi ≤ lo → Found less l c (Before lo)
+    pub found_before : {lo hi : ℕ} → Narrowed less d c l n lo hi → hi ≤ lo → Found less l c (Err lo)
     found_before {lo} {hi} w h =
         let e : lo ≡ hi = omega (arith, w.low) in
         let r : lo ≤ length l = omega (arith, w.count, w.high) in
@@ -77,13 +76,13 @@ module _ {A : Type 0} {less : A → A → Bool} (o : Order less) (d : A) where
         }
 
     -- a look at the last entry x
-    pub found_none : length l ≡ n → n ≡ 0 → Found less l c (Before 0)
+    pub found_none : length l ≡ n → n ≡ 0 → Found less l c (Err 0)
     found_none e z = found_before (narrowed_starts e) (omega arith)
 
-    pub found_behind : {x : A} → length l ≡ n → 0 < n → get_or l (n - 1) d ≡ x → less x c ≡ true → Found less l c (Before n)
+    pub found_behind : {x : A} → length l ≡ n → 0 < n → get_or l (n - 1) d ≡ x → less x c ≡ true → Found less l c (Err n)
     found_behind e h f k =
         let q : n - 1 + 1 ≡ n = omega arith in
-        subst (λ (i : ℕ). Found less l c (Before i)) q (found_before (narrowed_up (narrowed_starts e) (omega arith) f k) (omega arith))
+        subst (λ (i : ℕ). Found less l c (Err i)) q (found_before (narrowed_up (narrowed_starts e) (omega arith) f k) (omega arith))
 
-    pub found_last : {x : A} → length l ≡ n → 0 < n → get_or l (n - 1) d ≡ x → less x c ≡ false → less c x ≡ false → Found less l c (At (n - 1))
+    pub found_last : {x : A} → length l ≡ n → 0 < n → get_or l (n - 1) d ≡ x → less x c ≡ false → less c x ≡ false → Found less l c (Ok (n - 1))
     found_last e h f p q = found_at (narrowed_starts e) (omega arith) f p q

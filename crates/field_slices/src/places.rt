@@ -1,14 +1,7 @@
-// Where an entry stands among those that ascend, or before which it goes.
+// Where an entry stands among those that ascend, or before which it goes: Ok of its index, or Err of the one before which it goes, as Rust's
+// `binary_search` answers.
 ghost use Rattle.std.specs.Prelude.{◌≡◌, ◌≤◌, min, ltb, length, take};
 ghost use Rattle.field_slices.specs.Places.{Found};
-
-#[derive(Clone, Copy)]
-pub enum Place {
-    // It is there, at this index.
-    At(usize),
-    // It is not there, and goes before the entry at this index, or behind all of them.
-    Before(usize),
-}
 
 pub fn smaller(m: usize, n: usize) -> usize
     ensures { result ≡ min m n }
@@ -17,7 +10,7 @@ pub fn smaller(m: usize, n: usize) -> usize
 }
 
 // The binary search among the first n entries.
-fn search_key(keys: &[u64], n: usize, key: u64) -> Place
+fn search_key(keys: &[u64], n: usize, key: u64) -> Result<usize, usize>
     requires { n ≤ length keys.now }
     ensures { Found ltb (take n keys.now) key result }
 {
@@ -32,28 +25,28 @@ fn search_key(keys: &[u64], n: usize, key: u64) -> Place
             if key < halfway {
                 hi = mid;
             } else {
-                return Place::At(mid);
+                return Ok(mid);
             }
         }
     }
-    Place::Before(lo)
+    Err(lo)
 }
 
 // Where key stands among the first n entries, or all of them where there are fewer. The last entry is looked at first, since entries
 // nearly always come in order: one that is greater goes behind it, one that is the same is there.
-pub fn place_of_key(keys: &[u64], n: usize, key: u64) -> Place
+pub fn place_of_key(keys: &[u64], n: usize, key: u64) -> Result<usize, usize>
     ensures { Found ltb (take n keys.now) key result }
 {
     let count = smaller(n, keys.len());
     if count == 0 {
-        return Place::Before(0);
+        return Err(0);
     }
     let last = keys[count - 1];
     if last < key {
-        return Place::Before(count);
+        return Err(count);
     }
     if last == key {
-        return Place::At(count - 1);
+        return Ok(count - 1);
     }
     search_key(keys, count, key)
 }

@@ -1,0 +1,26 @@
+-- A search among so many entries that asks of each how it stands to the one that is looked for: less, the same, or greater.
+use Rattle.std.specs.Prelude.{◌≡◌, ℕ, ◌<◌, ◌≤◌, Result, MatchResult}
+use Rattle.core.specs.declared.cmp.Ordering.{Ordering}
+use Rattle.core.specs.declared.cmp.Ordering.TheVariants.{Less, Equal, Greater}
+
+-- `by` is what each of n calls may answer
+abbrev pub Ranks : (ℕ → Ordering → Type 0) → ℕ → (ℕ → Ordering) → Type 0
+Ranks answers n by = (i : ℕ) (r : Ordering) → i < n → answers i r → r ≡ by i
+
+module _ (by : ℕ → Ordering) (n : ℕ) where
+  -- all before one that is not greater are less
+  abbrev pub Rises : Type 0
+  Rises = (i j : ℕ) → i < j → j < n → (by j ≡ Greater → ⊥) → by i ≡ Less
+
+  -- all before the i-th are less
+  abbrev pub LessBelow : ℕ → Type 0
+  LessBelow i = (j : ℕ) → j < i → by j ≡ Less
+
+  -- what is looked for is between lo and hi
+  pub record Closes (lo hi : ℕ) : Type 0 where
+    pub before : Rises → LessBelow lo
+    pub behind : hi < n → by hi ≡ Greater
+
+  -- it is found, or belongs where the search ends
+  abbrev pub Sought : Result ℕ ℕ → Type 0
+  Sought r = MatchResult r (λ i. (i < n) × (by i ≡ Equal)) (λ i. (i ≤ n) × Closes i i)
