@@ -1,6 +1,7 @@
 -- The fields of a row, taken out of its line: each is what the token at its column says.
-use Rattle.std.specs.Prelude.{◌≡◌, ℕ, ◌<◌, Bool, false, cond, List, length}
+use Rattle.std.specs.Prelude.{◌≡◌, ℕ, ◌<◌, Bool, false, cond, List, length, Float, Option, Some, None, Result}
 use Rattle.ascii.specs.Bytes.{bytes, first}
+use Rattle.numbers.specs.declared.reading.NumberError.{NumberError}
 use Rattle.numbers.specs.Reading.{number_of}
 use Rattle.tokens.specs.Split.{token_in}
 use Rattle.tokens.specs.Tokens.{tokens_of, token_at}
@@ -10,15 +11,20 @@ use Rattle.names.specs.Packing.{packed}
 use Rattle.names.specs.Elements.{element_of}
 use Rattle.rows.specs.declared.columns.Columns.{Columns}
 use Rattle.rows.specs.declared.fields.Name.{Name}
-use Rattle.rows.specs.declared.fields.Measure.{Measure}
-use Rattle.rows.specs.declared.fields.Measure.TheVariants.{Missing, Given}
 use Rattle.rows.specs.declared.fields.Fields.{Fields}
 use Rattle.rows.specs.declared.fields.Labels.{Labels}
 use Rattle.rows.specs.declared.fields.Numbers.{Numbers}
-use Rattle.rows.specs.declared.fields.Reach.{Reach}
 use Rattle.rows.specs.Columns.{is_absent}
 use Rattle.rows.specs.Columns as columns
-use Rattle.rows.specs.Reach.{reach_of}
+use Rattle.rows.specs.Reach.{Reach, reach_of}
+
+-- a number, or why it is none
+abbrev pub Number : Type 0
+Number = Result Float NumberError
+
+-- a number that may not be given: `.` or `?`, or no column
+abbrev pub Measure : Type 0
+Measure = Option Number
 
 -- ---- what a token says
 
@@ -34,7 +40,7 @@ abbrev pub insertion_code_of : List ℕ → ℕ
 insertion_code_of token = cond (is_missing token) 0 (first token)
 
 abbrev pub measure_of : List ℕ → Measure
-measure_of token = cond (is_missing token) Missing (Given (number_of token))
+measure_of token = cond (is_missing token) None (Some (number_of token))
 
 -- ---- the token at a column
 
@@ -54,7 +60,7 @@ unfoldable pub insertion_code_at : List ℕ → ℕ → ℕ
 insertion_code_at line column = if_declared column (insertion_code_of (token_at line column)) 0
 
 unfoldable pub occupancy_at : List ℕ → ℕ → Measure
-occupancy_at line column = if_declared column (measure_of (token_at line column)) Missing
+occupancy_at line column = if_declared column (measure_of (token_at line column)) None
 
 unfoldable pub element_at : List ℕ → ℕ → ℕ
 element_at line column = if_declared column (element_of (token_at line column)) 0

@@ -8,21 +8,12 @@ ghost use Rattle.rows.specs.Fields.{name_of, chain_of, insertion_code_of, measur
 
 use crate::columns::{Columns, is_absent};
 use crate::reach::reach_of;
-use numbers::Number;
-use refusals::Column;
+use numbers::NumberError;
+use refusals::Reason;
 use tokens::{LONGEST, Part};
 
 // Nearly every row is a line of at most so many bytes, for which less has to be cleared than for the longest.
 const SHORT: usize = 128;
-
-// Whether the row has all the columns that it must have, and reaches them.
-#[derive(Clone, Copy)]
-pub enum Reach {
-    Whole,
-    // The first missing one.
-    ColumnMissing(Column),
-    Short,
-}
 
 // A name: its true length, and its first eight bytes as a number.
 #[derive(Clone, Copy)]
@@ -31,16 +22,13 @@ pub struct Name {
     pub packed: u64,
 }
 
-// A number that may not be given: `.` or `?`, or no column.
-#[derive(Clone, Copy)]
-pub enum Measure {
-    Missing,
-    Given(Number),
-}
+// A number that may not be given, by `.` or `?` or no column; and a text that is given may be no number.
+pub type Measure = Option<Result<f64, NumberError>>;
 
 #[derive(Clone, Copy)]
 pub struct Fields {
-    pub reach: Reach,
+    // Whether the row has all the columns that it must have, and reaches them.
+    pub reach: Result<(), Reason>,
     pub hetatm: bool,
     pub atom: Name,
     pub residue: Name,
@@ -85,9 +73,9 @@ fn measure_of(token: &[u8]) -> Measure
     ensures { result ≡ measure_of token.now }
 {
     if token_values::is_missing(token) {
-        return Measure::Missing;
+        return None;
     }
-    Measure::Given(numbers::read_number(token))
+    Some(numbers::read_number(token))
 }
 
 // ---- the token at a column, out of the cell that the line's tokens were copied to
@@ -162,7 +150,7 @@ fn occupancy_at(cell: &[u8], places: &[usize], n: usize, column: u8) -> Measure
     ensures { (line : List ℕ) → InCell line cell.now places.now n → result ≡ occupancy_at line column }
 {
     if is_absent(column) {
-        return Measure::Missing;
+        return None;
     }
     measure_at(cell, places, n, column)
 }
@@ -224,7 +212,13 @@ fn numbers_in(columns: Columns, cell: &[u8], places: &[usize], n: usize) -> Numb
     Numbers { x, y, z, occupancy }
 }
 
-fn joined(reach: Reach, hetatm: bool, labels: Labels, numbers: Numbers, element: u8) -> Fields
+fn joined(
+    reach: Result<(), Reason>,
+    hetatm: bool,
+    labels: Labels,
+    numbers: Numbers,
+    element: u8,
+) -> Fields
     ensures { result ≡ joined_of reach hetatm labels numbers element }
 {
     let atom = labels.atom;
