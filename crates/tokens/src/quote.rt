@@ -9,27 +9,13 @@ use ascii::{NoRoom, put_text};
 fn has_byte(s: &[u8], b: u8) -> bool
     ensures { result ≡ has b s.now }
 {
-    let mut i = 0;
-    while i < s.len() {
-        if s[i] == b {
-            return true;
-        }
-        i += 1;
-    }
-    false
+    s.iter().any(|c| *c == b)
 }
 
 fn all_plain(s: &[u8]) -> bool
     ensures { result ≡ all_plain s.now }
 {
-    let mut i = 0;
-    while i < s.len() {
-        if !is_plain(s[i]) {
-            return false;
-        }
-        i += 1;
-    }
-    true
+    s.iter().all(|b| is_plain(*b))
 }
 
 fn quote_for(name: &[u8]) -> u8
@@ -49,7 +35,7 @@ fn put_in_quotes(name: &[u8], q: u8, out: &mut [u8], at: usize) -> usize
     ensures { Stored out.old at (in_quotes q name.now) out.new result }
 {
     out[at] = q;
-    put_text(name, out, at + 1);
+    let _ = put_text(name, out, at + 1);
     let end = at + 1 + name.len();
     out[end] = q;
     end + 1
