@@ -16,12 +16,10 @@ fn stands_from(chains: &[u64], n: usize, from: usize, name: u64) -> bool
     requires { n ≤ length chains.now }
     ensures { result ≡ any (eqb name) (list_from (entries chains.now) from (n - from)) }
 {
-    let mut i = from;
-    while i < n {
+    for i in from..n {
         if chains[i] == name {
             return true;
         }
-        i += 1;
     }
     false
 }
@@ -30,12 +28,10 @@ fn names_differ(chains: &[u64], n: usize) -> bool
     requires { n ≤ length chains.now }
     ensures { result ≡ differ (list_from (entries chains.now) 0 n) }
 {
-    let mut i = 0;
-    while i < n {
+    for i in 0..n {
         if stands_from(chains, n, i + 1, chains[i]) {
             return false;
         }
-        i += 1;
     }
     true
 }
@@ -43,22 +39,17 @@ fn names_differ(chains: &[u64], n: usize) -> bool
 fn is_chain_name(name: u64) -> bool
     ensures { result ≡ is_chain_name name }
 {
-    if name == POINT {
-        return false;
-    }
-    is_name(name)
+    is_name(name) && name != POINT
 }
 
 fn are_chain_names(chains: &[u64], n: usize) -> bool
     requires { n ≤ length chains.now }
     ensures { result ≡ every is_chain_name (list_from (entries chains.now) 0 n) }
 {
-    let mut i = 0;
-    while i < n {
+    for i in 0..n {
         if !is_chain_name(chains[i]) {
             return false;
         }
-        i += 1;
     }
     true
 }
@@ -67,8 +58,5 @@ pub(crate) fn are_chains_well(chains: &[u64], n: usize) -> bool
     requires { n ≤ length chains.now }
     ensures { result ≡ chains_well (take n chains.now) }
 {
-    if !names_differ(chains, n) {
-        return false;
-    }
-    are_chain_names(chains, n)
+    names_differ(chains, n) && are_chain_names(chains, n)
 }

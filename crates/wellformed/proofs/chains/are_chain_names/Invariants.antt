@@ -1,5 +1,4 @@
 use mathlib.Core.Path.{◌≡◌}
-use Prim.Native.Nat.{◌-◌}
 use Rattle.model.specs.Lent.{list_from}
 use Rattle.ascii.specs.Lists.{every}
 use Rattle.wellformed.specs.Slices.{entries, is_chain_name}
@@ -8,6 +7,3 @@ use Rattle.wellformed.proofs.chains.are_chain_names.Given as goal
 
 abbrev pub invariant-loop-i : goal.invariant-loop-i
 invariant-loop-i l = every is_chain_name (list_from (entries l.chains) 0 l.n) ≡ every is_chain_name (rest (entries l.chains) l.n l.i)
-
-abbrev pub decreases-loop-i : goal.decreases-loop-i
-decreases-loop-i l = l.n - l.i

@@ -15,14 +15,14 @@ both_tests : (l : List ℕ) (n : ℕ) → n ≤ length l → (differ (list_from 
 unfolding chains_well
 both_tests l n h = ap (λ (m : List ℕ). differ m && every is_chain_name m) (all_is l n h)
 
-pub returns-then-not-names_differ : goal.returns-then-not-names_differ
-returns-then-not-names_differ c =
+pub returns-else-names_differ : goal.returns-else-names_differ
+returns-else-names_differ c =
     let l = list_from (entries c.args.chains.now) 0 c.args.n in
-    ap (λ (t : Bool). t && every is_chain_name l) (sym (sym c.names_differ.ensures ∙ c.if-not-names_differ.true)) ∙ both_tests c.args.chains.now c.args.n c.requires
+    c.if-names_differ.false ∙ ap (λ (t : Bool). t && every is_chain_name l) (sym (sym c.names_differ.ensures ∙ c.if-names_differ.false)) ∙ both_tests c.args.chains.now c.args.n c.requires
 
-pub returns : goal.returns
-returns c =
+pub returns-then-names_differ : goal.returns-then-names_differ
+returns-then-names_differ c =
     let l = list_from (entries c.args.chains.now) 0 c.args.n in
     c.are_chain_names.ensures
-    ∙ ap (λ (t : Bool). t && every is_chain_name l) (sym (sym c.names_differ.ensures ∙ c.if-not-names_differ.false))
+    ∙ ap (λ (t : Bool). t && every is_chain_name l) (sym (sym c.names_differ.ensures ∙ c.if-names_differ.true))
     ∙ both_tests c.args.chains.now c.args.n c.requires

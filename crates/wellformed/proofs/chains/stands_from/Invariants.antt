@@ -1,5 +1,4 @@
 use mathlib.Core.Path.{◌≡◌}
-use Prim.Native.Nat.{◌-◌}
 use lib.Dec.{eqb}
 use Rattle.model.specs.Lists.{any}
 use Rattle.wellformed.specs.Slices.{entries}
@@ -8,6 +7,3 @@ use Rattle.wellformed.proofs.chains.stands_from.Given as goal
 
 abbrev pub invariant-loop-i : goal.invariant-loop-i
 invariant-loop-i l = any (eqb l.name) (rest (entries l.chains) l.n l.from) ≡ any (eqb l.name) (rest (entries l.chains) l.n l.i)
-
-abbrev pub decreases-loop-i : goal.decreases-loop-i
-decreases-loop-i l = l.n - l.i
