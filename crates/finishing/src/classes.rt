@@ -3,18 +3,14 @@ ghost use Rattle.std.specs.Prelude.{◌≡◌, get_or, set, take};
 ghost use Rattle.model.specs.Classes.{class_of};
 ghost use Rattle.finishing.specs.Classing.{is_unknown_by, Classifies};
 
-use ascii::byte_at;
-use field_slices::u64_at;
+use field_slices::{entry_at, store};
 use model::{class_of, is_alone, pass_lesser};
 
 // Neither resolved nor HETATM.
 fn is_unknown(code: u8, mark: u8) -> bool
     ensures { result ≡ is_unknown_by code mark }
 {
-    if code != 0 {
-        return false;
-    }
-    mark == 0
+    code == 0 && mark == 0
 }
 
 // Residue i: what it is goes into its records, its category over the HETATM mark; the answer is whether it is unknown.
@@ -30,16 +26,16 @@ fn classify_residue(
     ensures codes_after { codes.new ≡ set codes.old i (class_of (get_or names.old i 0) lone).code }
     ensures categories_after { categories.new ≡ set categories.old i (class_of (get_or names.old i 0) lone).category }
 {
-    let mark = byte_at(categories, i);
-    let class = class_of(u64_at(names, i), lone);
-    field_slices::store_u64(names, i, class.name);
-    field_slices::store_u8(codes, i, class.code);
-    field_slices::store_u8(categories, i, class.category);
+    let mark = entry_at(categories, i, 0);
+    let class = class_of(entry_at(names, i, 0), lone);
+    store(names, i, class.name);
+    store(codes, i, class.code);
+    store(categories, i, class.category);
     is_unknown(class.code, mark)
 }
 
-// The place of the first unknown residue, from 1; 0 where each is known, and then what each is stands in its records. Residues and atoms are in
-// one order, so that both are walked once.
+// The place of the first unknown residue, from 1; where each is known, what each is stands in its records. Residues and atoms are in one order,
+// so that both are walked once.
 pub(crate) fn classify_residues(
     keys: &[u64],
     names: &mut [u64],
@@ -48,19 +44,17 @@ pub(crate) fn classify_residues(
     atom_keys: &[u64],
     residues: usize,
     atoms: usize,
-) -> usize
+) -> Option<usize>
     ensures { Classifies keys.now names codes categories (take atoms atom_keys.now) residues result }
 {
     let mut at = 0;
-    let mut i = 0;
-    while i < residues {
-        let key = u64_at(keys, i);
+    for i in 0..residues {
+        let key = entry_at(keys, i, 0);
         at = pass_lesser(atom_keys, atoms, at, key);
         let lone = is_alone(atom_keys, atoms, at, key);
         if classify_residue(names, codes, categories, i, lone) {
-            return i + 1;
+            return Some(i + 1);
         }
-        i += 1;
     }
-    0
+    None
 }

@@ -4,6 +4,7 @@ ghost use Rattle.field_slices.specs.Clearing.{cleared};
 ghost use Rattle.model.specs.Lent.{lent_by};
 ghost use Rattle.finishing.specs.Clearing.{cleared_from};
 
+use field_slices::clear_from;
 use model::Room;
 
 // Whoever holds the chains clears them.
@@ -26,14 +27,14 @@ pub fn clear_records(
 {
     let residues = kept.residues;
     let atoms = kept.atoms;
-    field_slices::clear_u64_from(residue_keys, residues);
-    field_slices::clear_u64_from(residue_names, residues);
-    field_slices::clear_u8_from(residue_codes, residues);
-    field_slices::clear_u8_from(residue_categories, residues);
-    field_slices::clear_u8_from(residue_positions, residues);
-    field_slices::clear_u64_from(atom_keys, atoms);
-    field_slices::clear_u64_from(atom_names, atoms);
-    field_slices::clear_u8_from(elements, atoms);
-    field_slices::clear_point_from(positions, atoms);
-    field_slices::clear_f64_from(occupancies, atoms);
+    clear_from(residue_keys, residues, 0);
+    clear_from(residue_names, residues, 0);
+    clear_from(residue_codes, residues, 0);
+    clear_from(residue_categories, residues, 0);
+    clear_from(residue_positions, residues, 0);
+    clear_from(atom_keys, atoms, 0);
+    clear_from(atom_names, atoms, 0);
+    clear_from(elements, atoms, 0);
+    clear_from(positions, atoms, [0.0; 3]);
+    clear_from(occupancies, atoms, 0.0);
 }

@@ -10,30 +10,30 @@ use crate::positions::position_residues;
 use building::{Counts, sizes_of};
 use model::{Room, no_records};
 
+// A residue that is neither resolved nor HETATM. No record stays where there is one.
 #[derive(Clone, Copy)]
-pub enum Finish {
-    // The first unknown residue's place, from 1 over the model. No record stays.
-    Unknown(usize),
-    Known,
+pub struct Unknown {
+    // The first one's, from 1 over the model.
+    pub place: usize,
 }
 
 // How many records stay: none where there is an unknown residue.
-fn kept_by(unknown: usize, counts: Counts) -> Room
+fn kept_by(unknown: Option<usize>, counts: Counts) -> Room
     ensures { result ≡ kept_by unknown counts }
 {
-    if unknown == 0 {
-        return sizes_of(counts);
+    match unknown {
+        None => sizes_of(counts),
+        Some(_) => no_records(),
     }
-    no_records()
 }
 
-fn finish_by(unknown: usize) -> Finish
+fn finish_by(unknown: Option<usize>) -> Result<(), Unknown>
     ensures { result ≡ finish_by unknown }
 {
-    if unknown == 0 {
-        return Finish::Known;
+    match unknown {
+        None => Ok(()),
+        Some(place) => Err(Unknown { place }),
     }
-    Finish::Unknown(unknown)
 }
 
 // Once all rows are in: until now the HETATM marks, 0 or 1, stood where the categories are to be, and the slices of codes and positions held
@@ -50,7 +50,7 @@ pub fn finish_model(
     positions: &mut [[f64; 3]],
     occupancies: &mut [f64],
     counts: Counts,
-) -> Finish
+) -> Result<(), Unknown>
     ensures { (names : List ℕ) →
         let l = lent_by (record { entry = names; exit = cleared 0 (chains_kept result counts) names }) residue_keys residue_names residue_codes residue_categories residue_positions atom_keys atom_names elements positions occupancies in
         Ends l.entry counts result l.exit }
