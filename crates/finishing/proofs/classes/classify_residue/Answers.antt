@@ -13,4 +13,4 @@ returns c =
     let i = a.i in
     let k = c.class_of-class in
     let e : k.result ≡ class_of (get_or a.names.now i 0) a.lone
-    = k.ensures ∙ ap (λ (n : ℕ). class_of n a.lone) c.u64_at.ensures in record { value = c.is_unknown.ensures ∙ (λ j. is_unknown_by (e j).code (c.byte_at-mark.ensures j)); names_after = c.store_u64.ensures ∙ ap (λ (x : Class). set a.names.now i x.name) e; codes_after = c.store_u8.ensures ∙ ap (λ (x : Class). set a.codes.now i x.code) e; categories_after = c.store_u8-2.ensures ∙ ap (λ (x : Class). set a.categories.now i x.category) e }
+    = k.ensures ∙ ap (λ (n : ℕ). class_of n a.lone) c.entry_at.ensures in record { value = c.is_unknown.ensures ∙ (λ j. is_unknown_by (e j).code (c.entry_at-mark.ensures j)); names_after = c.store.ensures ∙ ap (λ (x : Class). set a.names.now i x.name) e; codes_after = c.store-2.ensures ∙ ap (λ (x : Class). set a.codes.now i x.code) e; categories_after = c.store-3.ensures ∙ ap (λ (x : Class). set a.categories.now i x.category) e }

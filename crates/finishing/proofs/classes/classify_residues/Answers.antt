@@ -12,18 +12,15 @@ returns-then-classify_residue c =
     let a = c.args in
     let k = c.classify_residue.ensures in
     classing_stops a.keys.now a.names.now a.codes.now a.categories.now (take a.atoms a.atom_keys.now) a.residues
-    c.loop-i.invariant c.loop-i-test.true c.u64_at-key.ensures c.pass_lesser-at.ensures c.is_alone-lone.ensures
+    c.loop-i.invariant c.loop-i-test.true c.entry_at-key.ensures c.pass_lesser-at.ensures c.is_alone-lone.ensures
     k.value k.names_after k.codes_after k.categories_after c.if-classify_residue.true
-
-pub loop-i-smaller : goal.loop-i-smaller
-loop-i-smaller c = omega (arith, c.loop-i-test.true)
 
 pub loop-i-preserved : goal.loop-i-preserved
 loop-i-preserved c =
     let a = c.args in
     let k = c.classify_residue.ensures in
     classing_on a.keys.now a.names.now a.codes.now a.categories.now (take a.atoms a.atom_keys.now) a.residues
-    c.loop-i.invariant c.loop-i-test.true c.u64_at-key.ensures c.pass_lesser-at.ensures c.is_alone-lone.ensures
+    c.loop-i.invariant c.loop-i-test.true c.entry_at-key.ensures c.pass_lesser-at.ensures c.is_alone-lone.ensures
     k.value k.names_after k.codes_after k.categories_after c.if-classify_residue.false
 
 pub returns : goal.returns

@@ -1,4 +1,3 @@
-use Prim.Native.Nat.{◌-◌}
 use lib.ListN.{take}
 use Rattle.finishing.proofs.ClassingLaws.{Classing}
 use Rattle.finishing.proofs.classes.classify_residues.Given as goal
@@ -6,6 +5,3 @@ use Rattle.finishing.proofs.classes.classify_residues.Given as goal
 abbrev pub invariant-loop-i : goal.invariant-loop-i
 invariant-loop-i l =
     Classing l.keys l.initial.names l.initial.codes l.initial.categories (take l.atoms l.atom_keys) l.residues l.names l.codes l.categories l.at l.i
-
-abbrev pub decreases-loop-i : goal.decreases-loop-i
-decreases-loop-i l = l.residues - l.i

@@ -6,14 +6,11 @@ use Rattle.finishing.proofs.positions.position_residues.Goals as goal
 pub loop-i-init : goal.loop-i-init
 loop-i-init c = positioning_starts _ _ _ _
 
-pub loop-i-smaller : goal.loop-i-smaller
-loop-i-smaller c = omega (arith, c.loop-i-test.true)
-
 pub loop-i-preserved : goal.loop-i-preserved
 loop-i-preserved c =
     let a = c.args in
-    positioning_on a.keys.now a.codes.now a.positions.now a.n c.loop-i.invariant c.loop-i-test.true c.u64_at-key.ensures
-    c.byte_at-code.ensures c.position_between-position.ensures c.store_u8.ensures c.met_with-met.ensures
+    positioning_on a.keys.now a.codes.now a.positions.now a.n c.loop-i.invariant c.loop-i-test.true c.entry_at-key.ensures
+    c.entry_at-code.ensures c.position_between-position.ensures c.store.ensures c.met_with-met.ensures
 
 pub returns : goal.returns
 returns c = positioning_ends _ _ _ _ c.loop-i.invariant (omega (arith, c.loop-i-test.false))
