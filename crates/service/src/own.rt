@@ -3,10 +3,11 @@ ghost use Rattle.field_slices.specs.Slice.{held};
 ghost use Rattle.service.specs.Serving.{ServesOwn};
 
 use crate::serving::serve;
-use results::Answer;
+use refusals::Refusal;
+use results::Served;
 use rows::Settings;
 
-pub fn serve_own(text: &[u8], out: &mut [u8], settings: Settings) -> Answer
+pub fn serve_own(text: &[u8], out: &mut [u8], settings: Settings) -> Result<Served, Refusal>
     ensures { let o = held out in ServesOwn settings text.now o.entry result o.exit }
 {
     let mut chains = [0u64; 64];

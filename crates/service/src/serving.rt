@@ -7,10 +7,11 @@ ghost use Rattle.model.specs.WellFormed.{well_formed_in};
 ghost use Rattle.service.specs.Serving.{Serves, WritesOut};
 
 use building::{Counts, sizes_of};
+use field_slices::clear_from;
 use finishing::clear_records;
-use model::no_records;
+use model::{Records, no_records};
 use refusals::Refusal;
-use results::Answer;
+use results::Served;
 use rows::Settings;
 use writer::write_well_formed;
 
@@ -29,13 +30,13 @@ fn write_out(
     positions: &mut [[f64; 3]],
     occupancies: &mut [f64],
     counts: Counts,
-) -> Answer
+) -> Result<Served, Refusal>
     requires { well_formed_in (passed chains residue_keys residue_names residue_codes residue_categories residue_positions
         atom_keys atom_names elements positions occupancies) (sizes_of counts) ≡ true }
     ensures { let l = lent chains residue_keys residue_names residue_codes residue_categories residue_positions atom_keys atom_names elements positions occupancies in
         let o = held out in WritesOut l.entry counts o.entry result l.exit o.exit }
 {
-    let written = write_well_formed(
+    let records = Records {
         chains,
         residue_keys,
         residue_names,
@@ -47,16 +48,11 @@ fn write_out(
         elements,
         positions,
         occupancies,
-        sizes_of(counts),
-        out,
-    );
-    match written {
-        writer::Answer::Written(n) => Answer::Served {
-            written: n,
-            counts: counts,
-        },
-        writer::Answer::Refused(why) => {
-            field_slices::clear_u64_from(chains, 0);
+    };
+    match write_well_formed(records, sizes_of(counts), out) {
+        Ok(written) => Ok(Served { written, counts }),
+        Err(reason) => {
+            clear_from(chains, 0, 0);
             clear_records(
                 residue_keys,
                 residue_names,
@@ -70,10 +66,7 @@ fn write_out(
                 occupancies,
                 no_records(),
             );
-            Answer::Refused(Refusal {
-                line: 0,
-                reason: why,
-            })
+            Err(Refusal { line: 0, reason })
         }
     }
 }
@@ -94,11 +87,11 @@ pub fn serve(
     positions: &mut [[f64; 3]],
     occupancies: &mut [f64],
     settings: Settings,
-) -> Answer
+) -> Result<Served, Refusal>
     ensures { let l = lent chains residue_keys residue_names residue_codes residue_categories residue_positions atom_keys atom_names elements positions occupancies in
         let o = held out in Serves settings l.entry text.now o.entry result l.exit o.exit }
 {
-    let answer = reader::read_by_names(
+    let counts = reader::read_by_names(
         text,
         chains,
         residue_keys,
@@ -112,23 +105,20 @@ pub fn serve(
         positions,
         occupancies,
         settings,
-    );
-    match answer {
-        readings::Answer::Refused(why) => Answer::Refused(why),
-        readings::Answer::Read(counts) => write_out(
-            out,
-            chains,
-            residue_keys,
-            residue_names,
-            residue_codes,
-            residue_categories,
-            residue_positions,
-            atom_keys,
-            atom_names,
-            elements,
-            positions,
-            occupancies,
-            counts,
-        ),
-    }
+    )?;
+    write_out(
+        out,
+        chains,
+        residue_keys,
+        residue_names,
+        residue_codes,
+        residue_categories,
+        residue_positions,
+        atom_keys,
+        atom_names,
+        elements,
+        positions,
+        occupancies,
+        counts,
+    )
 }

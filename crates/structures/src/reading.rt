@@ -4,9 +4,11 @@ ghost use Rattle.model.specs.Lent.{lent_by};
 ghost use Rattle.reader.specs.Reading.{ReadBy};
 
 use crate::runs::read_runs;
+use building::Counts;
 use chains::{Chain, clear_from};
 use model::room_by;
-use readings::{Answer, chains_left, close, halted_early};
+use readings::{chains_left, close, halted_early};
+use refusals::Refusal;
 use rows::Settings;
 
 pub fn read(
@@ -23,7 +25,7 @@ pub fn read(
     positions: &mut [[f64; 3]],
     occupancies: &mut [f64],
     settings: Settings,
-) -> Answer
+) -> Result<Counts, Refusal>
     ensures { let l = lent_by (names_at chains) residue_keys residue_names residue_codes residue_categories residue_positions atom_keys atom_names elements positions occupancies in
         ReadBy settings l.entry text.now result l.exit }
 {
@@ -69,7 +71,6 @@ pub fn read(
         occupancies,
         standing,
     );
-    let left = chains_left(answer);
-    clear_from(chains, left);
+    clear_from(chains, chains_left(answer));
     answer
 }

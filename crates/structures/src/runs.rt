@@ -8,33 +8,30 @@ ghost use Rattle.mmcif.specs.Acts.{acts_of};
 ghost use Rattle.mmcif.specs.Stages.{met};
 ghost use Rattle.chains.specs.Names.{names_at};
 
-use acts::{Halt, Standing};
+use acts::Standing;
 use chains::{Chain, place_in};
 use mmcif::{Stage, chain_in, first_row, take_run, waits};
 use model::Room;
+use refusals::Refusal;
 use rows::Settings;
 
 // How many chains were met.
 fn met(stage: Stage) -> usize
     ensures { result ≡ met stage }
 {
-    let standing = stage.standing;
-    let held = standing.held;
-    let counts = held.counts;
-    counts.chains
+    stage.standing.held.counts.chains
 }
 
 fn standing_in(stage: Stage) -> Standing
     ensures { result ≡ stage.standing }
 {
-    let standing = stage.standing;
-    standing
+    stage.standing
 }
 
 // The lines of the text, unless it was refused before them. One lifetime for all the slices, so that the caller lends them together.
 pub(crate) fn read_runs<'t, 'a>(
     text: &'t [u8],
-    halt: Halt,
+    halt: Result<(), Refusal>,
     chains: &'a mut [Chain],
     residue_keys: &'a mut [u64],
     residue_names: &'a mut [u64],
