@@ -3,6 +3,7 @@
 
 mod classes;
 mod keys;
+mod lent;
 mod neighbours;
 mod records;
 mod room;
@@ -11,6 +12,7 @@ mod termini;
 
 pub use classes::{Class, class_of};
 pub use keys::{chain_part, code_part, residue_key, sequence_part};
+pub use lent::{AtomsMut, ResiduesMut, room_in};
 pub use neighbours::{is_alone, met_with, pass_lesser, position_between};
 pub use records::Records;
 pub use room::{Room, no_records, room_by, room_of};
