@@ -78,13 +78,11 @@ fn none_odd(text: &[u8]) -> bool
     ensures { result ≡ every stands_anywhere text.now }
 {
     let mut most: u8 = 0;
-    let mut i = 0;
-    while i < text.len() {
-        let odd = oddness(text[i]);
+    for b in text {
+        let odd = oddness(*b);
         if most < odd {
             most = odd;
         }
-        i += 1;
     }
     most == 0
 }

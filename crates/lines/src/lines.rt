@@ -25,17 +25,14 @@ const BLOCK: usize = 16;
 
 // Whether there is no 10 in a block.
 fn has_no_feed(block: &[u8]) -> bool
-    requires { length block.now ≡ 16 }
     ensures { result ≡ every is_no_feed block.now }
 {
     let mut most: u8 = 0;
-    let mut i = 0;
-    while i < BLOCK {
-        let mark = feed_mark(block[i]);
+    for b in block {
+        let mark = feed_mark(*b);
         if most < mark {
             most = mark;
         }
-        i += 1;
     }
     most == 0
 }

@@ -4,8 +4,7 @@ use mathlib.Core.Path.{◌≡◌, sym, subst, ◌∙◌}
 use mathlib.Core.Bool.{true}
 use Prim.Native.Nat.{ℕ, ◌+◌, ◌-◌}
 use native.Mathlib.Omega.{arith}
-use lib.ListN.{take, drop, length-drop}
-use lib.Seq.{length-take-le}
+use lib.ListN.{take, drop}
 use Rattle.ascii.specs.Lists.{every}
 use Rattle.lines.specs.Lines.{is_no_feed}
 use Rattle.lines.proofs.LineLaws.{feed_past}
@@ -13,12 +12,6 @@ use Rattle.lines.proofs.lines.past_blocks.Goals as goal
 
 all_of : (i : ℕ) → i + 16 - i ≡ 16
 all_of i = omega arith
-
-pub has_no_feed-requires : goal.has_no_feed-requires
-has_no_feed-requires c =
-    let text = c.args.text.now in
-    let i = c.loop-i.i in
-    length-take-le (i + 16 - i) (drop i text) (omega (arith, length-drop i text)) ∙ all_of i
 
 pub returns-then-not-has_no_feed : goal.returns-then-not-has_no_feed
 returns-then-not-has_no_feed c = c.loop-i.invariant
