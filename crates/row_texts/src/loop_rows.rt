@@ -10,6 +10,7 @@ use crate::fields::{
     put_code, put_coordinate, put_decimal, put_group, put_name, put_number, put_sequence,
     put_symbol,
 };
+use crate::row_ends::{past_atom_row, past_polymer_row};
 use rows::Point3;
 
 // What a row of the atom loop says.
@@ -106,6 +107,9 @@ fn put_author(out: &mut [u8], at: usize, row: AtomRow) -> usize
 pub fn put_atom_row(out: &mut [u8], at: usize, row: AtomRow) -> usize
     ensures { (is_near row.position ≡ true → Emits out at (atom_text row) result) × (length out.new ≡ length out.old) }
 {
+    if out.len() <= at {
+        return past_atom_row(at, row);
+    }
     let at = put_labels(out, at, row);
     let at = put_numbering(out, at, row);
     let at = put_position(out, at, row);
@@ -115,6 +119,9 @@ pub fn put_atom_row(out: &mut [u8], at: usize, row: AtomRow) -> usize
 pub fn put_polymer_row(out: &mut [u8], at: usize, row: PolymerRow) -> usize
     ensures { Emits out at (polymer_text row) result }
 {
+    if out.len() <= at {
+        return past_polymer_row(at, row);
+    }
     let at = put_decimal(out, at, row.entity);
     let at = put_byte(out, at, b' ');
     let at = put_decimal(out, at, row.number);

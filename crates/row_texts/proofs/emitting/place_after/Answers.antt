@@ -3,10 +3,10 @@ use mathlib.Core.Path.{refl}
 use Rattle.row_texts.specs.Emitted.{place_after}
 use Rattle.row_texts.proofs.emitting.place_after.Goals as goal
 
-pub returns-in-Next : goal.returns-in-Next
+pub returns-in-Ok : goal.returns-in-Ok
 unfolding place_after
-returns-in-Next c = rw c.in-Next.is (λ h. refl)
+returns-in-Ok c = rw c.in-Ok.is (λ h. refl)
 
-pub returns-in-NoRoom : goal.returns-in-NoRoom
+pub returns-in-Err : goal.returns-in-Err
 unfolding place_after
-returns-in-NoRoom c = rw c.in-NoRoom.is c.place_on.ensures
+returns-in-Err c = rw c.in-Err.is c.place_on.ensures
