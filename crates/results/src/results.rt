@@ -49,10 +49,8 @@ fn put_number(res: &mut [u8], at: usize, n: usize)
     requires { at + 4 ≤ length res.old }
     ensures { res.new ≡ sets res.old at (little_endian n) }
 {
-    res[at] = (n % 256) as u8;
-    res[at + 1] = (n / 0x100 % 256) as u8;
-    res[at + 2] = (n / 0x10000 % 256) as u8;
-    res[at + 3] = (n / 0x1000000 % 256) as u8;
+    let bytes = n.to_le_bytes();
+    res[at..at + 4].copy_from_slice(&bytes[0..4]);
 }
 
 fn put_whole(res: &mut [u8], answer: Result<Served, Refusal>)
@@ -60,10 +58,8 @@ fn put_whole(res: &mut [u8], answer: Result<Served, Refusal>)
     ensures { res.new ≡ bytes_of (numbers_in answer) }
 {
     let numbers = numbers_of(answer);
-    let mut k = 0;
-    while k < 7 {
-        put_number(res, 4 * k, numbers[k]);
-        k += 1;
+    for (k, n) in numbers.iter().enumerate() {
+        put_number(res, 4 * k, *n);
     }
 }
 

@@ -2,8 +2,6 @@
 #![tactic(auto)]
 
 mod atoms;
-mod chains;
-mod ends;
 mod headers;
 mod polymer_numbers;
 mod polymers;
