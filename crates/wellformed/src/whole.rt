@@ -23,7 +23,7 @@ fn are_records_well(records: Records<'_>, counts: Room) -> bool
     requires { Within (lent_in records) counts }
     ensures { result ≡ records_well (lent_in records.entry) counts }
 {
-    are_chains_well(records.chains, counts.chains)
+    are_chains_well(&records.chains[0..counts.chains])
         && in_runs(records, counts)
         && in_order(records, counts)
         && are_atoms_well(records, counts.atoms)
