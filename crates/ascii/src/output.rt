@@ -1,6 +1,6 @@
 // A text put at a place of a lent buffer: whole where it fits, and else not a byte of it.
-ghost use Rattle.std.specs.Prelude.{◌≡◌, ◌+◌, ◌≤◌, leb, length};
-ghost use Rattle.ascii.specs.Output.{Stored, placed_of, buffer_after};
+ghost use Rattle.std.specs.Prelude.{◌≡◌, ◌+◌, leb};
+ghost use Rattle.ascii.specs.Output.{placed_of, buffer_after};
 
 // Why a text was not put: it needs so many bytes. The buffer is as it was.
 #[derive(Clone, Copy)]
@@ -12,22 +12,7 @@ pub struct NoRoom {
 pub fn fits_at(size: usize, at: usize, n: usize) -> bool
     ensures { result ≡ leb (at + n) size }
 {
-    if size < at {
-        return false;
-    }
-    n <= size - at
-}
-
-fn store_text(text: &[u8], out: &mut [u8], at: usize) -> usize
-    requires { at + length text.now ≤ length out.old }
-    ensures { Stored out.old at text.now out.new result }
-{
-    let mut i = 0;
-    while i < text.len() {
-        out[at + i] = text[i];
-        i += 1;
-    }
-    at + i
+    at <= size && n <= size - at
 }
 
 // The text as it is, from index at on, where it fits; the answer is the place after it.
@@ -38,5 +23,7 @@ pub fn put_text(text: &[u8], out: &mut [u8], at: usize) -> Result<usize, NoRoom>
     if !fits_at(out.len(), at, n) {
         return Err(NoRoom { needed: n });
     }
-    Ok(store_text(text, out, at))
+    let next = at + n;
+    out[at..next].copy_from_slice(text);
+    Ok(next)
 }
