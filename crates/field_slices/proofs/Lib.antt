@@ -4,4 +4,5 @@ pub mod MapLaws
 pub mod OrderLaws
 pub mod PairLaws
 pub mod PlaceLaws
+pub mod RankLaws
 pub mod SearchLaws

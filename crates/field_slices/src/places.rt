@@ -1,35 +1,14 @@
 // Where an entry stands among those that ascend, or before which it goes: Ok of its index, or Err of the one before which it goes, as Rust's
 // `binary_search` answers.
-ghost use Rattle.std.specs.Prelude.{◌≡◌, ◌≤◌, min, ltb, length, take};
+ghost use Rattle.std.specs.Prelude.{◌≡◌, min, ltb, take};
 ghost use Rattle.field_slices.specs.Places.{Found};
+
+use std::cmp::Ordering;
 
 pub fn smaller(m: usize, n: usize) -> usize
     ensures { result ≡ min m n }
 {
-    if m < n { m } else { n }
-}
-
-// The binary search among the first n entries.
-fn search_key(keys: &[u64], n: usize, key: u64) -> Result<usize, usize>
-    requires { n ≤ length keys.now }
-    ensures { Found ltb (take n keys.now) key result }
-{
-    let mut lo = 0;
-    let mut hi = n;
-    while lo < hi {
-        let mid = lo + (hi - lo) / 2;
-        let halfway = keys[mid];
-        if halfway < key {
-            lo = mid + 1;
-        } else {
-            if key < halfway {
-                hi = mid;
-            } else {
-                return Ok(mid);
-            }
-        }
-    }
-    Err(lo)
+    m.min(n)
 }
 
 // Where key stands among the first n entries, or all of them where there are fewer. The last entry is looked at first, since entries
@@ -41,12 +20,9 @@ pub fn place_of_key(keys: &[u64], n: usize, key: u64) -> Result<usize, usize>
     if count == 0 {
         return Err(0);
     }
-    let last = keys[count - 1];
-    if last < key {
-        return Err(count);
+    match keys[count - 1].cmp(&key) {
+        Ordering::Less => Err(count),
+        Ordering::Equal => Ok(count - 1),
+        Ordering::Greater => keys[..count].binary_search(&key),
     }
-    if last == key {
-        return Ok(count - 1);
-    }
-    search_key(keys, count, key)
 }

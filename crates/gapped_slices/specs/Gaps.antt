@@ -3,7 +3,7 @@ use Rattle.std.specs.Prelude.{◌≡◌, List, ◌++◌, ℕ, suc, ◌+◌, ◌-
 use Rattle.field_slices.specs.Insertion.{ins}
 
 -- where the i-th entry stands, with so many before the gap
-unfoldable pub standing : ℕ → ℕ → ℕ → ℕ
+abbrev pub standing : ℕ → ℕ → ℕ → ℕ
 standing front gap i = cond (ltb i front) i (i + gap)
 
 module _ {A : Type 0} where

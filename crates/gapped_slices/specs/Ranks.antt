@@ -3,9 +3,13 @@ use Rattle.std.specs.Prelude.{◌≡◌, ℕ, ◌<◌, ◌≤◌, Result, MatchR
 use Rattle.core.specs.declared.cmp.Ordering.{Ordering}
 use Rattle.core.specs.declared.cmp.Ordering.TheVariants.{Less, Equal, Greater}
 
--- `by` is what each of n calls may answer
+-- each of n calls answers as `by` says
 abbrev pub Ranks : (ℕ → Ordering → Type 0) → ℕ → (ℕ → Ordering) → Type 0
 Ranks answers n by = (i : ℕ) (r : Ordering) → i < n → answers i r → r ≡ by i
+
+-- P holds of what the calls answer
+abbrev pub OfRanks : (ℕ → Ordering → Type 0) → ℕ → ((ℕ → Ordering) → Type 0) → Type 0
+OfRanks answers n P = (by : ℕ → Ordering) → Ranks answers n by → P by
 
 module _ (by : ℕ → Ordering) (n : ℕ) where
   -- all before one that is not greater are less

@@ -1,10 +1,10 @@
 // Where an entry belongs among those of slices with a gap: the gap is moved there before the entry is put in. The entries next to the
 // gap are looked at first, so that an entry which comes in order costs one look on each side.
-ghost use Rattle.std.specs.Prelude.{◌≡◌, ℕ, ◌+◌, ◌≤◌, ◌<◌, ◌^◌, leb, ltb, length};
-ghost use Rattle.core.specs.declared.cmp.Ordering.{Ordering};
+ghost use Rattle.std.specs.Prelude.{◌≡◌, ℕ, ◌+◌, ◌≤◌, ◌<◌, ◌^◌, leb, ltb, length, get_or};
+ghost use Rattle.core.specs.Ordering.{nat_cmp, ordering_then};
 ghost use Rattle.field_slices.specs.Places.{pairs, below};
 ghost use Rattle.gapped_slices.specs.Gaps.{closed, standing};
-ghost use Rattle.gapped_slices.specs.Ranks.{Ranks, Closes, Sought};
+ghost use Rattle.gapped_slices.specs.Ranks.{OfRanks, Closes, Sought};
 ghost use Rattle.gapped_slices.specs.Spots.{Spotted};
 
 use std::cmp::Ordering;
@@ -31,8 +31,8 @@ fn by_halves<F: Fn(usize) -> Ordering>(
 ) -> Result<usize, usize>
     requires range { (from ≤ to) × (to ≤ many) }
     requires called { (i : ℕ) → i < many → F.pre rank.now i }
-    requires closes { (by : ℕ → Ordering) → Ranks (F.post rank.now) many by → Closes by many from to }
-    ensures { (by : ℕ → Ordering) → Ranks (F.post rank.now) many by → Sought by many result }
+    requires closes { OfRanks (F.post rank.now) many (λ by. Closes by many from to) }
+    ensures { OfRanks (F.post rank.now) many (λ by. Sought by many result) }
 {
     let mut lo = from;
     let mut hi = to;
@@ -51,8 +51,8 @@ fn by_halves<F: Fn(usize) -> Ordering>(
 fn back_from<F: Fn(usize) -> Ordering>(front: usize, many: usize, rank: &F) -> Result<usize, usize>
     requires range { front ≤ many }
     requires called { (i : ℕ) → i < many → F.pre rank.now i }
-    requires closes { (by : ℕ → Ordering) → Ranks (F.post rank.now) many by → Closes by many 0 front }
-    ensures { (by : ℕ → Ordering) → Ranks (F.post rank.now) many by → Sought by many result }
+    requires closes { OfRanks (F.post rank.now) many (λ by. Closes by many 0 front) }
+    ensures { OfRanks (F.post rank.now) many (λ by. Sought by many result) }
 {
     let stop = front - STEPS.min(front);
     for i in (stop..front).rev() {
@@ -69,8 +69,8 @@ fn back_from<F: Fn(usize) -> Ordering>(front: usize, many: usize, rank: &F) -> R
 fn on_from<F: Fn(usize) -> Ordering>(front: usize, many: usize, rank: &F) -> Result<usize, usize>
     requires range { front ≤ many }
     requires called { (i : ℕ) → i < many → F.pre rank.now i }
-    requires closes { (by : ℕ → Ordering) → Ranks (F.post rank.now) many by → Closes by many front many }
-    ensures { (by : ℕ → Ordering) → Ranks (F.post rank.now) many by → Sought by many result }
+    requires closes { OfRanks (F.post rank.now) many (λ by. Closes by many front many) }
+    ensures { OfRanks (F.post rank.now) many (λ by. Sought by many result) }
 {
     let stop = front + STEPS.min(many - front);
     for i in front..stop {
@@ -87,7 +87,7 @@ fn on_from<F: Fn(usize) -> Ordering>(front: usize, many: usize, rank: &F) -> Res
 fn spot_by<F: Fn(usize) -> Ordering>(front: usize, many: usize, rank: F) -> Result<usize, usize>
     requires range { front ≤ many }
     requires called { (i : ℕ) → i < many → F.pre rank i }
-    ensures { (by : ℕ → Ordering) → Ranks (F.post rank) many by → Sought by many result }
+    ensures { OfRanks (F.post rank) many (λ by. Sought by many result) }
 {
     if front == 0 {
         return on_from(0, many, &rank);
@@ -121,9 +121,11 @@ pub(crate) fn spot_of_key(
         return Err(0);
     }
     let gap = keys.len() - behind - front;
-    spot_by(front, front + behind, |i| {
-        keys[standing(front, gap, i)].cmp(&key)
-    })
+    let rank = |i: usize| -> Ordering
+        requires { i + gap < length keys.now }
+        ensures { result ≡ nat_cmp (get_or keys.entry.now (standing front gap i) 0) key }
+    { keys[standing(front, gap, i)].cmp(&key) };
+    spot_by(front, front + behind, rank)
 }
 
 pub(crate) fn spot_of(
@@ -142,9 +144,13 @@ pub(crate) fn spot_of(
     }
     let gap = keys.len() - behind - front;
     let name_gap = names.len() - behind - front;
-    spot_by(front, front + behind, |i| {
+    let rank = |i: usize| -> Ordering
+        requires { (i + gap < length keys.now) × (i + name_gap < length names.now) }
+        ensures { result ≡ ordering_then (nat_cmp (get_or keys.entry.now (standing front gap i) 0) key) (nat_cmp (get_or names.entry.now (standing front name_gap i) 0) name) }
+    {
         let k = keys[standing(front, gap, i)];
         let m = names[standing(front, name_gap, i)];
         (k, m).cmp(&(key, name))
-    })
+    };
+    spot_by(front, front + behind, rank)
 }

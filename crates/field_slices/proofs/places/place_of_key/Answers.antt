@@ -1,14 +1,12 @@
 -- The first n entries are as many as are counted; the last of them decides, and else the search among all of them.
-use mathlib.Core.Path.{◌≡◌, sym, ap, ◌∙◌}
-use mathlib.Core.List.{List}
-use Prim.Native.Nat.{ℕ, ◌-◌, ◌<◌, min}
-use native.Mathlib.Omega.{arith}
-use lib.ListN.{length, take, get_or, length-take}
-use lib.Seq.{get_or-take}
-use borrow.Author.Tests.{lt-ltb, le-ltb}
+use Rattle.std.proofs.Common.{◌≡◌, ◌-◌, ◌<◌, ℕ, List, length, take, get_or, min, sym, ap, ◌∙◌, arith}
+use Rattle.core.specs.Ordering.{nat_cmp}
 use Rattle.field_slices.proofs.OrderLaws.{numbers}
+use lib.Seq.{get_or-take}
+use lib.ListN.{length-take}
 use Rattle.field_slices.proofs.PairLaws.{first_counted}
-use Rattle.field_slices.proofs.SearchLaws.{found_in, found_none, found_behind, found_last}
+use Rattle.field_slices.proofs.RankLaws.{number_ranking, less_from, found_here, found_search}
+use Rattle.field_slices.proofs.SearchLaws.{found_in, found_none, found_behind}
 use Rattle.field_slices.proofs.places.place_of_key.Goals as goal
 
 -- what is looked at is as many entries as are counted, and the last of them
@@ -21,17 +19,22 @@ last n m keys e h = get_or-take n keys (m - 1) 0 (omega arith)
 pub returns-then-count-eq0 : goal.returns-then-count-eq0
 returns-then-count-eq0 c = found_none numbers 0 (counted c.args.n c.smaller-count.result c.args.keys.now c.smaller-count.ensures) c.if-count-eq0.true
 
-pub returns-then-last-key : goal.returns-then-last-key
-returns-then-last-key c =
-    found_behind numbers 0 (counted c.args.n c.smaller-count.result c.args.keys.now c.smaller-count.ensures) (omega arith) (last c.args.n c.smaller-count.result c.args.keys.now c.smaller-count.ensures (omega arith)) (lt-ltb _ _ c.if-last-key.true)
+pub returns-in-Less : goal.returns-in-Less
+returns-in-Less c =
+    let a = c.args in
+    let n = c.smaller-count.result in
+    let e = c.smaller-count.ensures in
+    found_behind numbers 0 (counted a.n n a.keys.now e) (omega arith) (last a.n n a.keys.now e (omega arith)) (less_from number_ranking (get_or a.keys.now (n - 1) 0) a.key (sym c.cmp.ensures ∙ c.in-Less.is))
 
-pub returns-then-last-key-2 : goal.returns-then-last-key-2
-returns-then-last-key-2 c =
-    let k = get_or c.args.keys.now (c.smaller-count.result - 1) 0 in
-    found_last numbers 0 (counted c.args.n c.smaller-count.result c.args.keys.now c.smaller-count.ensures) (omega arith) (last c.args.n c.smaller-count.result c.args.keys.now c.smaller-count.ensures (omega arith))
-    (le-ltb _ _ c.if-last-key.false)
-    (le-ltb c.args.key k (omega arith))
+pub returns-in-Equal : goal.returns-in-Equal
+returns-in-Equal c =
+    let a = c.args in
+    let n = c.smaller-count.result in
+    let e = c.smaller-count.ensures in
+    found_here number_ranking (take a.n a.keys.now) a.key 0 (omega (arith, counted a.n n a.keys.now e)) (ap (λ k. nat_cmp k a.key) (last a.n n a.keys.now e (omega arith)) ∙ sym c.cmp.ensures ∙ c.in-Equal.is)
 
-pub returns : goal.returns
-returns c =
-    found_in (ap (λ (m : ℕ). take m c.args.keys.now) c.smaller-count.ensures ∙ first_counted _ c.args.keys.now) c.search_key.ensures
+pub returns-in-Greater : goal.returns-in-Greater
+returns-in-Greater c =
+    let a = c.args in
+    let found = c.binary_search in
+    found_in (ap (λ (m : ℕ). take m a.keys.now) c.smaller-count.ensures ∙ first_counted _ a.keys.now) (found_search number_ranking _ a.key 0 found.result found.ensures.bound found.ensures.position)

@@ -1,0 +1,112 @@
+-- What `cmp` answers of two entries says which of them comes first, so what Rust's binary search answers is a place.
+use mathlib.Core.Path.{◌≡◌, refl, sym, ap, ◌∙◌, subst}
+use mathlib.Core.Logic.{◌⊎◌, inl, inr, ⊎_elim}
+use mathlib.Core.List.{List}
+use mathlib.Core.Bool.{Bool, true, false, false≢true}
+use Prim.Native.Nat.{ℕ, ◌≤◌, ◌<◌}
+use native.Mathlib.Nat.{le_refl, eq-or-lt_of_le}
+use native.Mathlib.Omega.{arith}
+use lib.Dec.{ltb}
+use lib.ListN.{length, get_or}
+use borrow.Author.Tests.{lt-ltb}
+use Rattle.std.specs.Prelude.{Result, Ok, Err}
+use Rattle.std.proofs.Common.{Ordering, zero-le}
+use Rattle.core.specs.declared.cmp.Ordering.TheVariants.{Less, Equal, Greater}
+use Rattle.core.specs.Ordering.{MatchOrdering, is_gt, nat_cmp, ordering_then, ordering_index}
+use Rattle.core.specs.Cmp.{ranks}
+use Rattle.core.specs.List.Sorted.{IsSearchInRange, IsBinarySearchResult, IsNonDecreasingBy}
+use Rattle.field_slices.specs.Places.{Ascending, below, Found, FirstBelow}
+use Rattle.field_slices.proofs.OrderLaws.{Order, asymmetric, numbers, by_both, below_first, below_second}
+use Rattle.field_slices.proofs.PlaceLaws.{get_d_any, ascending_at, place_before, place_at}
+
+-- an order, and a comparison that answers by it
+pub record Ranking {A : Type 0} (less : A → A → Bool) (cmp : A → A → Ordering) : Type 0 where
+  pub order : Order less
+  pub ranks : (x y : A) → MatchOrdering (cmp x y) (less x y ≡ true) (x ≡ y) (less y x ≡ true)
+
+pub number_ranking : Ranking ltb nat_cmp
+number_ranking = record { order = numbers; ranks = λ x y. go x y (nat_cmp x y) (ranks x y) }
+  where
+    go : (x y : ℕ) (r : Ordering) → MatchOrdering r (x < y) (x ≡ y) (y < x) → MatchOrdering r (ltb x y ≡ true) (x ≡ y) (ltb y x ≡ true)
+    go x y Less h = lt-ltb x y h
+    go x y Equal h = h
+    go x y Greater h = lt-ltb y x h
+
+-- pairs, by the first and then by the second
+abbrev pub pair_cmp : ℕ × ℕ → ℕ × ℕ → Ordering
+pair_cmp p q = ordering_then (nat_cmp p.0 q.0) (nat_cmp p.1 q.1)
+
+pub pair_ranking : Ranking below pair_cmp
+pair_ranking = record { order = by_both; ranks = λ p q. go p q (nat_cmp p.0 q.0) (nat_cmp p.1 q.1) (ranks p.0 q.0) (ranks p.1 q.1) }
+  where
+    go : (p q : ℕ × ℕ) (r s : Ordering) → MatchOrdering r (p.0 < q.0) (p.0 ≡ q.0) (q.0 < p.0) → MatchOrdering s (p.1 < q.1) (p.1 ≡ q.1) (q.1 < p.1)
+        → MatchOrdering (ordering_then r s) (below p q ≡ true) (p ≡ q) (below q p ≡ true)
+    go p q Less s h k = below_first p q h
+    go p q Equal Less h k = below_second p q h ∙ lt-ltb p.1 q.1 k
+    go p q Equal Equal h k = λ i. (h i, k i)
+    go p q Equal Greater h k = below_second q p (sym h) ∙ lt-ltb q.1 p.1 k
+    go p q Greater s h k = below_first q p h
+
+module _ {A : Type 0} {less : A → A → Bool} {cmp : A → A → Ordering} (o : Ranking less cmp) where
+  -- ---- each answer, read in both directions
+  means : (x y : A) (r : Ordering) → cmp x y ≡ r → MatchOrdering r (less x y ≡ true) (x ≡ y) (less y x ≡ true)
+  means x y r e = subst (λ k. MatchOrdering k (less x y ≡ true) (x ≡ y) (less y x ≡ true)) e (o.ranks x y)
+
+  pub less_from : (x y : A) → cmp x y ≡ Less → less x y ≡ true
+  less_from x y e = means x y Less e
+
+  pub same_from : (x y : A) → cmp x y ≡ Equal → x ≡ y
+  same_from x y e = means x y Equal e
+
+  pub more_from : (x y : A) → cmp x y ≡ Greater → less y x ≡ true
+  more_from x y e = means x y Greater e
+
+  pub to_less : (x y : A) → less x y ≡ true → cmp x y ≡ Less
+  to_less x y h = go (cmp x y) (o.ranks x y)
+    where
+      go : (r : Ordering) → MatchOrdering r (less x y ≡ true) (x ≡ y) (less y x ≡ true) → r ≡ Less
+      go Less k = refl
+      go Equal k = absurd (false≢true (sym (subst (λ z. less x z ≡ false) k (o.order.irreflexive x)) ∙ h))
+      go Greater k = absurd (false≢true (sym (asymmetric o.order y x k) ∙ h))
+
+  -- ---- places in l
+  module _ (l : List A) (x : A) where
+    pub found_here : (d : A) {i : ℕ} → i < length l → cmp (get_or l i d) x ≡ Equal → Found less l x (Ok i)
+    found_here d {i} h e =
+        let f : get_or l i d ≡ x = same_from (get_or l i d) x e in
+        record {
+          inside = (h, get_d_any l i x d h ∙ f);
+          place = λ s. sym (place_at o.order d x l i h (λ j k. subst (λ (y : A). less (get_or l j d) y ≡ true) f (ascending_at o.order d l s j i k h)) f);
+        }
+
+    pub found_gap : (d : A) {i : ℕ} → i ≤ length l → (Ascending less l → FirstBelow less d x l i × (i < length l → less x (get_or l i d) ≡ true)) → Found less l x (Err i)
+    found_gap d {i} h f = record { inside = h; place = λ s. sym (place_before o.order d x l i h (f s).0 (f s).1) }
+
+    -- where the list ascends, all before an entry that is not greater are less
+    pub rises : (d : A) {i j : ℕ} → Ascending less l → i < j → j < length l → (cmp (get_or l j d) x ≡ Greater → ⊥) → cmp (get_or l i d) x ≡ Less
+    rises d {i} {j} s h k n = to_less (get_or l i d) x (go (cmp (get_or l j d) x) refl (ascending_at o.order d l s i j h k))
+      where
+        go : (r : Ordering) → cmp (get_or l j d) x ≡ r → less (get_or l i d) (get_or l j d) ≡ true → less (get_or l i d) x ≡ true
+        go Less e a = o.order.transitive (get_or l i d) (get_or l j d) x a (less_from (get_or l j d) x e)
+        go Equal e a = subst (λ (y : A). less (get_or l i d) y ≡ true) (same_from (get_or l j d) x e) a
+        go Greater e a = absurd (n e)
+
+    -- what Rust's binary search answers
+    index_below : (r s : Ordering) → (r ≡ s) ⊎ (((s ≡ Greater → ⊥) → r ≡ Less)) → ordering_index r ≤ ordering_index s
+    index_below r s (inl e) = subst (λ k. ordering_index r ≤ ordering_index k) e (le_refl (ordering_index r))
+    index_below Less s (inr f) = zero-le
+    index_below r Greater (inr f) = most r
+      where
+        most : (r : Ordering) → ordering_index r ≤ 2
+        most Less = omega arith
+        most Equal = omega arith
+        most Greater = omega arith
+    index_below r Less (inr f) = subst (λ k. ordering_index k ≤ 0) (sym (f (λ e. absurd (false≢true (ap is_gt e))))) zero-le
+    index_below r Equal (inr f) = subst (λ k. ordering_index k ≤ 1) (sym (f (λ e. absurd (false≢true (ap is_gt e))))) zero-le
+
+    rising : Ascending less l → IsNonDecreasingBy (λ y. ordering_index (cmp y x)) l
+    rising s i j d h k = index_below (cmp (get_or l i d) x) (cmp (get_or l j d) x) (⊎_elim (λ e. inl (ap (λ n. cmp (get_or l n d) x) e)) (λ g. inr (rises d s g k)) (eq-or-lt_of_le h))
+
+    pub found_search : (d : A) (r : Result ℕ ℕ) → IsSearchInRange r (length l) → IsBinarySearchResult (λ y. cmp y x) l r → Found less l x r
+    found_search d (Ok i) h e = found_here d h (e d)
+    found_search d (Err i) h e = found_gap d h (λ s. (λ j k. less_from (get_or l j d) x ((e (rising s)).0 j d zero-le k), λ k. more_from (get_or l i d) x ((e (rising s)).1 i d (le_refl i) k)))
