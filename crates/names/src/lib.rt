@@ -5,7 +5,6 @@ mod elements;
 mod packing;
 mod residues;
 mod rows;
-mod search;
 mod table;
 
 pub use elements::{element_of, symbol_of};

@@ -13,10 +13,8 @@ pub fn pack(name: &[u8]) -> u64
     ensures { result ≡ packed name.now }
 {
     let mut number = 0;
-    let mut i = 0;
-    while i < 8 {
+    for i in 0..8 {
         number = number * 256 + byte_at(name, i) as u64;
-        i += 1;
     }
     number
 }
@@ -53,11 +51,9 @@ pub fn unpack(name: u64, cell: &mut [u8]) -> usize
     ensures { (result ≡ length (unpacked name)) × (cell.new ≡ cell_of (length cell.old) (unpacked name)) }
 {
     let mut rest = name;
-    let mut i = 0;
-    while i < cell.len() {
-        cell[i] = first_byte(rest);
+    for byte in cell.iter_mut() {
+        *byte = first_byte(rest);
         rest = after_first(rest);
-        i += 1;
     }
     name_len(name)
 }

@@ -9,7 +9,7 @@ ghost use Rattle.names.specs.Positions.{position_code, position_name, position_o
 // The twenty amino acids, the bases of RNA and of DNA, and water.
 #[derive(Clone, Copy)]
 pub enum StandardResidue {
-    ALA,
+    ALA = 1,
     ARG,
     ASN,
     ASP,
@@ -44,7 +44,7 @@ pub enum StandardResidue {
 
 #[derive(Clone, Copy)]
 pub enum ResidueCategory {
-    Standard,
+    Standard = 1,
     Hetero,
     Ion,
 }
@@ -68,7 +68,7 @@ pub enum Polymer {
 }
 
 // The name of each number's residue, packed.
-const SHOWN: [u64; 32] = [
+static SHOWN: [u64; 32] = [
     0,
     0x414c_4100_0000_0000,
     0x4152_4700_0000_0000,
@@ -103,15 +103,50 @@ const SHOWN: [u64; 32] = [
     0x484f_4800_0000_0000,
 ];
 
+// The residues in the order of their numbers, from 1 on.
+static RESIDUES: [StandardResidue; 31] = [
+    StandardResidue::ALA,
+    StandardResidue::ARG,
+    StandardResidue::ASN,
+    StandardResidue::ASP,
+    StandardResidue::CYS,
+    StandardResidue::GLN,
+    StandardResidue::GLU,
+    StandardResidue::GLY,
+    StandardResidue::HIS,
+    StandardResidue::ILE,
+    StandardResidue::LEU,
+    StandardResidue::LYS,
+    StandardResidue::MET,
+    StandardResidue::PHE,
+    StandardResidue::PRO,
+    StandardResidue::SER,
+    StandardResidue::THR,
+    StandardResidue::TRP,
+    StandardResidue::TYR,
+    StandardResidue::VAL,
+    StandardResidue::A,
+    StandardResidue::C,
+    StandardResidue::G,
+    StandardResidue::U,
+    StandardResidue::I,
+    StandardResidue::DA,
+    StandardResidue::DC,
+    StandardResidue::DG,
+    StandardResidue::DT,
+    StandardResidue::DI,
+    StandardResidue::HOH,
+];
+
 // The categories in the order of their numbers, from 1 on.
-const CATEGORIES: [ResidueCategory; 3] = [
+static CATEGORIES: [ResidueCategory; 3] = [
     ResidueCategory::Standard,
     ResidueCategory::Hetero,
     ResidueCategory::Ion,
 ];
 
 // The positions in the order of their numbers, from 0 on.
-const POSITIONS: [ResiduePosition; 6] = [
+static POSITIONS: [ResiduePosition; 6] = [
     ResiduePosition::None,
     ResiduePosition::Internal,
     ResiduePosition::NTerminal,
@@ -125,78 +160,14 @@ impl StandardResidue {
     pub fn code(self) -> u8
         ensures { result ≡ residue_code self }
     {
-        match self {
-            StandardResidue::ALA => 1,
-            StandardResidue::ARG => 2,
-            StandardResidue::ASN => 3,
-            StandardResidue::ASP => 4,
-            StandardResidue::CYS => 5,
-            StandardResidue::GLN => 6,
-            StandardResidue::GLU => 7,
-            StandardResidue::GLY => 8,
-            StandardResidue::HIS => 9,
-            StandardResidue::ILE => 10,
-            StandardResidue::LEU => 11,
-            StandardResidue::LYS => 12,
-            StandardResidue::MET => 13,
-            StandardResidue::PHE => 14,
-            StandardResidue::PRO => 15,
-            StandardResidue::SER => 16,
-            StandardResidue::THR => 17,
-            StandardResidue::TRP => 18,
-            StandardResidue::TYR => 19,
-            StandardResidue::VAL => 20,
-            StandardResidue::A => 21,
-            StandardResidue::C => 22,
-            StandardResidue::G => 23,
-            StandardResidue::U => 24,
-            StandardResidue::I => 25,
-            StandardResidue::DA => 26,
-            StandardResidue::DC => 27,
-            StandardResidue::DG => 28,
-            StandardResidue::DT => 29,
-            StandardResidue::DI => 30,
-            StandardResidue::HOH => 31,
-        }
+        self as u8
     }
 
     pub fn of_code(code: u8) -> Option<StandardResidue>
         ensures { result ≡ residue_of code }
     {
-        match code {
-            1 => Some(StandardResidue::ALA),
-            2 => Some(StandardResidue::ARG),
-            3 => Some(StandardResidue::ASN),
-            4 => Some(StandardResidue::ASP),
-            5 => Some(StandardResidue::CYS),
-            6 => Some(StandardResidue::GLN),
-            7 => Some(StandardResidue::GLU),
-            8 => Some(StandardResidue::GLY),
-            9 => Some(StandardResidue::HIS),
-            10 => Some(StandardResidue::ILE),
-            11 => Some(StandardResidue::LEU),
-            12 => Some(StandardResidue::LYS),
-            13 => Some(StandardResidue::MET),
-            14 => Some(StandardResidue::PHE),
-            15 => Some(StandardResidue::PRO),
-            16 => Some(StandardResidue::SER),
-            17 => Some(StandardResidue::THR),
-            18 => Some(StandardResidue::TRP),
-            19 => Some(StandardResidue::TYR),
-            20 => Some(StandardResidue::VAL),
-            21 => Some(StandardResidue::A),
-            22 => Some(StandardResidue::C),
-            23 => Some(StandardResidue::G),
-            24 => Some(StandardResidue::U),
-            25 => Some(StandardResidue::I),
-            26 => Some(StandardResidue::DA),
-            27 => Some(StandardResidue::DC),
-            28 => Some(StandardResidue::DG),
-            29 => Some(StandardResidue::DT),
-            30 => Some(StandardResidue::DI),
-            31 => Some(StandardResidue::HOH),
-            _ => None,
-        }
+        let place = code.checked_sub(1)?;
+        RESIDUES.get(place as usize).copied()
     }
 
     // The name that the residue is shown by, packed.
@@ -210,21 +181,13 @@ impl StandardResidue {
     pub fn is_protein(self) -> bool
         ensures { result ≡ is_protein self }
     {
-        match Polymer::of_code(self.code()) {
-            Polymer::Protein => true,
-            Polymer::Nucleic => false,
-            Polymer::Neither => false,
-        }
+        matches!(Polymer::of_code(self.code()), Polymer::Protein)
     }
 
     pub fn is_nucleic(self) -> bool
         ensures { result ≡ is_nucleic self }
     {
-        match Polymer::of_code(self.code()) {
-            Polymer::Protein => false,
-            Polymer::Nucleic => true,
-            Polymer::Neither => false,
-        }
+        matches!(Polymer::of_code(self.code()), Polymer::Nucleic)
     }
 }
 
@@ -246,11 +209,7 @@ impl ResidueCategory {
     pub fn code(self) -> u8
         ensures { result ≡ category_code self }
     {
-        match self {
-            ResidueCategory::Standard => 1,
-            ResidueCategory::Hetero => 2,
-            ResidueCategory::Ion => 3,
-        }
+        self as u8
     }
 
     // The name that the category is shown by, zeros after it.
@@ -267,15 +226,8 @@ impl ResidueCategory {
     pub fn of_code(code: u8) -> Option<ResidueCategory>
         ensures { result ≡ category_of code }
     {
-        if code < 1 {
-            return None;
-        }
-        if 3 < code {
-            return None;
-        }
-        let i = (code - 1) as usize;
-        let category = CATEGORIES[i];
-        Some(category)
+        let place = code.checked_sub(1)?;
+        CATEGORIES.get(place as usize).copied()
     }
 }
 
@@ -284,14 +236,7 @@ impl ResiduePosition {
     pub fn code(self) -> u8
         ensures { result ≡ position_code self }
     {
-        match self {
-            ResiduePosition::None => 0,
-            ResiduePosition::Internal => 1,
-            ResiduePosition::NTerminal => 2,
-            ResiduePosition::CTerminal => 3,
-            ResiduePosition::FivePrime => 4,
-            ResiduePosition::ThreePrime => 5,
-        }
+        self as u8
     }
 
     // The name that the position is shown by, zeros after it.
@@ -311,11 +256,6 @@ impl ResiduePosition {
     pub fn of_code(code: u8) -> Option<ResiduePosition>
         ensures { result ≡ position_of code }
     {
-        if 5 < code {
-            return None;
-        }
-        let i = code as usize;
-        let position = POSITIONS[i];
-        Some(position)
+        POSITIONS.get(code as usize).copied()
     }
 }
