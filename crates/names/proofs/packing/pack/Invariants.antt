@@ -1,5 +1,5 @@
 use mathlib.Core.Path.{◌≡◌}
-use Prim.Native.Nat.{◌-◌, ◌^◌, ◌≤◌, ◌<◌}
+use Prim.Native.Nat.{◌^◌, ◌<◌}
 use Rattle.names.specs.Packing.{packed}
 use Rattle.names.proofs.PackingTurns.{onward}
 use Rattle.names.proofs.packing.pack.Given as goal

@@ -1,10 +1,9 @@
 -- The bytes stored and a cell of the rest of the name are the cell of the name; each turn stores the first byte of the rest.
-use mathlib.Core.Path.{refl, sym, ap, ◌∙◌}
+use mathlib.Core.Path.{sym, ap, ◌∙◌}
 use mathlib.Core.List.{List}
 use Prim.Native.Nat.{ℕ, ◌+◌}
 use native.Mathlib.Omega.{arith}
-use lib.ListN.{length, set, length-set}
-use borrow.Author.Rules.{rules}
+use lib.ListN.{length, set}
 use Rattle.ascii.specs.Bytes.{first}
 use Rattle.names.specs.Packing.{unpacked}
 use Rattle.names.proofs.CellTurns.{filling, filling_first, filling_turn, filling_last}
