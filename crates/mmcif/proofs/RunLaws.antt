@@ -20,7 +20,7 @@ use Rattle.acts.specs.declared.doing.Standing.{Standing}
 use Rattle.acts.proofs.LengthLaws.{lengths_same, lengths_then}
 use Rattle.mmcif.specs.declared.stages.Stage.{Stage}
 use Rattle.mmcif.specs.declared.stages.Waiting.{Waiting}
-use Rattle.mmcif.specs.Stages.{chain_in, is_waiting, is_of, is_own, left, met, Inside, Between, Before, ReachedBy, Reached, GoesOnTo, PutBy, PutsWaiting, Walks}
+use Rattle.mmcif.specs.Stages.{chain_in, is_waiting, is_of, run_of, is_own, left, met, Inside, Between, Before, ReachedBy, Reached, GoesOnTo, PutBy, PutsWaiting, Walks}
 use Rattle.mmcif.proofs.StageLaws.{between, at_between, inside_between, row_put}
 
 -- the row that waits
@@ -38,9 +38,9 @@ waits_of None name e = absurd (false≢true e)
 waits_of (Some row) name e = (refl, eqb-true row.site.chain name e)
 
 -- a run goes on with a row of its chain
-own_of : (runs : Bool) (w : Option Waiting) (name : ℕ) → is_own runs w name ≡ true → (runs ≡ true) × (is_of w name ≡ true)
-own_of true w name e = (refl, e)
-own_of false w name e = absurd (false≢true e)
+own_of : (first w : Option Waiting) → is_own (run_of first) w ≡ true → (is_waiting first ≡ true) × (is_of w (chain_in first) ≡ true)
+own_of (Some row) w e = (refl, e)
+own_of None w e = absurd (false≢true e)
 
 -- a name that stands at a place stands there in the same list
 still : (l m : List ℕ) (place name : ℕ) → m ≡ l → set l place name ≡ l → set m place name ≡ m
@@ -161,10 +161,10 @@ module _ (text : List ℕ) (settings : Settings) (room : Room) (place : ℕ) (fr
             (put_after text settings room place name few s row.line row.site named kept mid after same keeps stored_here (o.found waits stored f) (o.inside i) target b)
 
     -- with a row of the chain
-    pub one_row : is_own (is_waiting from.waiting) to.waiting name ≡ true → OnTheRun to after
+    pub one_row : is_own (run_of from.waiting) to.waiting ≡ true → OnTheRun to after
     one_row e =
-        let waits = (own_of (is_waiting from.waiting) to.waiting name e).0 in
-        let mine = waits_of to.waiting name (own_of (is_waiting from.waiting) to.waiting name e).1 in
+        let waits = (own_of from.waiting to.waiting e).0 in
+        let mine = waits_of to.waiting name (own_of from.waiting to.waiting e).1 in
         record {
           lengths = lengths_so_far;
           chains = same ∙ o.chains;
@@ -176,8 +176,8 @@ module _ (text : List ℕ) (settings : Settings) (room : Room) (place : ℕ) (fr
           reached = λ i first f stored. reached_next first stored f i;
         }
 
-    pub less : is_own (is_waiting from.waiting) to.waiting name ≡ true → left text to < left text s
-    less e = nearer (own_of (is_waiting from.waiting) to.waiting name e).0
+    pub less : is_own (run_of from.waiting) to.waiting ≡ true → left text to < left text s
+    less e = nearer (own_of from.waiting to.waiting e).0
 
     -- or with none
     pub run_taken : Walks text settings room place from to r after

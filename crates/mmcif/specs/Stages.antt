@@ -46,14 +46,23 @@ abbrev pub is_of : Option Waiting → ℕ → Bool
 is_of None name = false
 is_of (Some row) name = eqb row.site.chain name
 
--- with which a run goes on, if it is one
-abbrev pub is_own : Bool → Option Waiting → ℕ → Bool
-is_own true w name = is_of w name
-is_own false w name = false
+-- the chain of the run that begins with it
+abbrev pub run_of : Option Waiting → Option ℕ
+run_of None = None
+run_of (Some row) = Some row.site.chain
+
+-- with which a run goes on, if there is one
+abbrev pub is_own : Option ℕ → Option Waiting → Bool
+is_own (Some name) w = is_of w name
+is_own None w = false
 
 -- where no row waits
 abbrev pub stage_at : ℕ → ℕ → Heads → Standing → Stage
 stage_at at number heads standing = record { at = at; number = number; heads = heads; standing = standing; waiting = None }
+
+-- the same place, with none that waits
+abbrev pub between_rows : Stage → Stage
+between_rows s = stage_at s.at s.number s.heads s.standing
 
 abbrev pub first_stage : Result (Unit {0}) Refusal → ℕ → Stage
 first_stage halt size = stage_at (onward_to halt 0 size) 1 start_heads (record { held = none_held; halt = halt })

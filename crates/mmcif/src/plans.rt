@@ -49,8 +49,6 @@ pub(crate) fn plan_of(settings: Settings, heads: Heads, line: &[u8]) -> Plan
     }
     let moved = line_states::read_line(heads, line);
     let heads = moved.heads;
-    let columns = heads.columns;
-    let does = moved.does;
-    let act = act_by(settings, line, columns, does);
+    let act = act_by(settings, line, heads.columns, moved.does);
     Plan { heads, act }
 }

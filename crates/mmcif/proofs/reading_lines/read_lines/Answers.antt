@@ -33,25 +33,25 @@ module _ {text : List ℕ} {settings : Settings} {room : Room} {first : Records}
   one_run : UnderWay text settings room first target to (after chains)
   one_run = turn u (sym told ∙ more) place found_here to (after chains) taken
 
-pub loop-settings-init : goal.loop-settings-init
-loop-settings-init c = λ target u. u
+pub loop-stage-init : goal.loop-stage-init
+loop-stage-init c = λ target u. u
 
-pub loop-settings-smaller : goal.loop-settings-smaller
-loop-settings-smaller c =
+pub loop-stage-smaller : goal.loop-stage-smaller
+loop-stage-smaller c =
     let a = c.args in
     let l = c.take_run-stage.new in
-    less_left (c.loop-settings.invariant _ (begins a.text.now a.settings a.room _ a.halt c.first_row-stage.result c.first_row-stage.ensures))
-    c.waits.result c.waits.ensures c.loop-settings-test.true c.chain_in-name.result c.chain_place-place.result c.chain_in-name.ensures c.chain_place-place.ensures
+    less_left (c.loop-stage.invariant _ (begins a.text.now a.settings a.room _ a.halt c.first_row-stage.result c.first_row-stage.ensures))
+    c.waits.result c.waits.ensures c.loop-stage-test.true c.chain_in-name.result c.chain_place-place.result c.chain_in-name.ensures c.chain_place-place.ensures
     c.store.new.slice c.store.ensures c.take_run-stage.result
     (λ chains. records_of chains l.residue_keys l.residue_names l.residue_marks l.atom_keys l.atom_names l.elements l.positions l.occupancies)
     (c.take_run-stage.ensures _)
 
-pub loop-settings-preserved : goal.loop-settings-preserved
-loop-settings-preserved c =
+pub loop-stage-preserved : goal.loop-stage-preserved
+loop-stage-preserved c =
     let l = c.take_run-stage.new in
     λ target u.
-    one_run (c.loop-settings.invariant target u)
-    c.waits.result c.waits.ensures c.loop-settings-test.true c.chain_in-name.result c.chain_place-place.result c.chain_in-name.ensures c.chain_place-place.ensures
+    one_run (c.loop-stage.invariant target u)
+    c.waits.result c.waits.ensures c.loop-stage-test.true c.chain_in-name.result c.chain_place-place.result c.chain_in-name.ensures c.chain_place-place.ensures
     c.store.new.slice c.store.ensures c.take_run-stage.result
     (λ chains. records_of chains l.residue_keys l.residue_names l.residue_marks l.atom_keys l.atom_names l.elements l.positions l.occupancies)
     (c.take_run-stage.ensures _)
@@ -59,4 +59,4 @@ loop-settings-preserved c =
 pub returns : goal.returns
 returns c =
     let a = c.args in
-    ends (c.loop-settings.invariant _ (begins a.text.now a.settings a.room _ a.halt c.first_row-stage.result c.first_row-stage.ensures)) (sym c.waits.ensures ∙ c.loop-settings-test.false)
+    ends (c.loop-stage.invariant _ (begins a.text.now a.settings a.room _ a.halt c.first_row-stage.result c.first_row-stage.ensures)) (sym c.waits.ensures ∙ c.loop-stage-test.false)

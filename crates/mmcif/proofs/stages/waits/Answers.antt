@@ -1,8 +1,0 @@
--- Each arm is one case of `is_waiting`.
-use Rattle.mmcif.proofs.stages.waits.Goals as goal
-
-pub returns-in-None : goal.returns-in-None
-returns-in-None c = rw c.in-None.is
-
-pub returns-in-Some : goal.returns-in-Some
-returns-in-Some c = rw c.in-Some.is
