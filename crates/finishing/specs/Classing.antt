@@ -1,9 +1,9 @@
 -- What a walk over residues and atoms in their order says of each residue, by its index: what it is, and whether it is unknown.
-use Rattle.std.specs.Prelude.{◌≡◌, Bool, ◌&&◌, cond, List, ℕ, zero, suc, ◌+◌, eqb, get_or, drop, Option, Some, None}
-use Rattle.field_slices.specs.Slice.{Slice}
+use Rattle.std.specs.Prelude.{◌≡◌, Bool, ◌&&◌, cond, List, ℕ, zero, suc, ◌+◌, eqb, get_or, set, drop, Option, Some, None}
 use Rattle.model.specs.Classes.{class_of}
 use Rattle.model.specs.Neighbours.{lessers, alone_in}
 use Rattle.model.specs.declared.classes.Class.{Class}
+use Rattle.model.specs.declared.lent.ResiduesMut.{ResiduesMut}
 use Rattle.finishing.specs.Filling.{filled}
 
 -- no standard code and no HETATM mark
@@ -35,7 +35,17 @@ pub record Classified (keys names codes marks atoms : List ℕ) (n : ℕ) (r : O
   pub codes_stored : r ≡ None → codes' ≡ filled (λ i. (class_at keys names atoms i).code) n codes
   pub categories_stored : r ≡ None → categories ≡ filled (λ i. (class_at keys names atoms i).category) n marks
 
--- the same of lent slices: the marks stand where the categories will
-abbrev pub Classifies : List ℕ → Slice ℕ → Slice ℕ → Slice ℕ → List ℕ → ℕ → Option ℕ → Type 0
-Classifies keys names codes categories atoms n r =
-    Classified keys names.entry.now codes.entry.now categories.entry.now atoms n r names.exit.now codes.exit.now categories.exit.now
+-- ---- the same of lent records: the marks stand where the categories will
+
+-- what residue i is, in its records
+pub record ClassStored (c : Class) (i : ℕ) (r after : ResiduesMut) : Type 0 where
+  pub names : after.names.now ≡ set r.names.now i c.name
+  pub codes : after.codes.now ≡ set r.codes.now i c.code
+  pub categories : after.categories.now ≡ set r.categories.now i c.category
+  pub keys : after.keys.now ≡ r.keys.now
+  pub positions : after.positions.now ≡ r.positions.now
+
+pub record Classifies (r : ResiduesMut) (atoms : List ℕ) (n : ℕ) (unknown : Option ℕ) (after : ResiduesMut) : Type 0 where
+  pub classified : Classified r.keys.now r.names.now r.codes.now r.categories.now atoms n unknown after.names.now after.codes.now after.categories.now
+  pub keys : after.keys.now ≡ r.keys.now
+  pub positions : after.positions.now ≡ r.positions.now

@@ -1,14 +1,14 @@
 // The model finished in the lent records.
 ghost use Rattle.std.specs.Prelude.{List, ◌≡◌, ℕ};
 ghost use Rattle.field_slices.specs.Clearing.{cleared};
-ghost use Rattle.model.specs.Lent.{lent_by};
+ghost use Rattle.model.specs.LentNow.{lent_now, SameResidues, SameAtoms};
 ghost use Rattle.finishing.specs.Finishing.{kept_by, finish_by, chains_kept, Ends};
 
 use crate::classes::classify_residues;
 use crate::clearing::clear_records;
 use crate::positions::position_residues;
 use building::{Counts, sizes_of};
-use model::{Room, no_records};
+use model::{AtomsMut, ResiduesMut, Room, no_records};
 
 // A residue that is neither resolved nor HETATM. No record stays where there is one.
 #[derive(Clone, Copy)]
@@ -39,45 +39,17 @@ fn finish_by(unknown: Option<usize>) -> Result<(), Unknown>
 // Once all rows are in: until now the HETATM marks, 0 or 1, stood where the categories are to be, and the slices of codes and positions held
 // anything. Where a residue is unknown the positions are of no use, and all records are cleared. Whoever holds the chains clears them.
 pub fn finish_model(
-    residue_keys: &mut [u64],
-    residue_names: &mut [u64],
-    residue_codes: &mut [u8],
-    residue_categories: &mut [u8],
-    residue_positions: &mut [u8],
-    atom_keys: &mut [u64],
-    atom_names: &mut [u64],
-    elements: &mut [u8],
-    positions: &mut [[f64; 3]],
-    occupancies: &mut [f64],
+    residues: &mut ResiduesMut<'_>,
+    atoms: &mut AtomsMut<'_>,
     counts: Counts,
 ) -> Result<(), Unknown>
-    ensures { (names : List ℕ) →
-        let l = lent_by (record { entry = names; exit = cleared 0 (chains_kept result counts) names }) residue_keys residue_names residue_codes residue_categories residue_positions atom_keys atom_names elements positions occupancies in
-        Ends l.entry counts result l.exit }
+    ensures same_residues { SameResidues residues.old residues.new }
+    ensures same_atoms { SameAtoms atoms.old atoms.new }
+    ensures ends { (names : List ℕ) →
+        Ends (lent_now names residues.old atoms.old) counts result (lent_now (cleared 0 (chains_kept result counts) names) residues.new atoms.new) }
 {
-    let residues = counts.residues;
-    let unknown = classify_residues(
-        residue_keys,
-        residue_names,
-        residue_codes,
-        residue_categories,
-        atom_keys,
-        residues,
-        counts.atoms,
-    );
-    position_residues(residue_keys, residue_codes, residue_positions, residues);
-    clear_records(
-        residue_keys,
-        residue_names,
-        residue_codes,
-        residue_categories,
-        residue_positions,
-        atom_keys,
-        atom_names,
-        elements,
-        positions,
-        occupancies,
-        kept_by(unknown, counts),
-    );
+    let unknown = classify_residues(residues, atoms, counts);
+    position_residues(residues, counts.residues);
+    clear_records(residues, atoms, kept_by(unknown, counts));
     finish_by(unknown)
 }
