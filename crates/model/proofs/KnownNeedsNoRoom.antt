@@ -5,6 +5,7 @@ use mathlib.Core.List.{List, [], ◌∷◌, ◌++◌, Memᴰ}
 use Prim.Native.Nat.{ℕ}
 use lib.Dec.{leb}
 use lib.ListN.{length}
+use Rattle.std.specs.Prelude.{None}
 use Rattle.rows.specs.declared.rules.Site.{Site}
 use Rattle.model.specs.Chains.{chain_place, with_chain}
 use Rattle.model.specs.Fold.{start, model_of}

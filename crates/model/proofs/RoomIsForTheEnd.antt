@@ -5,6 +5,7 @@ use mathlib.Core.List.{List, [], ◌∷◌}
 use Prim.Native.Nat.{ℕ}
 use native.Mathlib.Omega.{arith}
 use Rattle.refusals.specs.declared.details.RecordKind.{RecordKind}
+use Rattle.std.specs.Prelude.{Option, None, Some}
 use Rattle.model.specs.Fold.{State, start, step, run, model_of}
 use Rattle.model.specs.declared.room.Room.{Room}
 use Rattle.model.specs.Room.{Fits, lacking, whole, stopped, onward, read_from, read_within}

@@ -9,6 +9,8 @@ use native.Mathlib.Omega.{arith}
 use lib.Dec.{leb}
 use lib.ListN.{length}
 use borrow.Author.Tests.{leb-false, lt-leb}
+use Rattle.std.specs.Prelude.{Option, None, Some}
+use Rattle.refusals.specs.declared.details.RecordKind.{RecordKind}
 use Rattle.rows.specs.declared.rules.Site.{Site}
 use Rattle.model.specs.Chains.{chain_place, with_chain}
 use Rattle.model.specs.Fold.{State, first, greater, start, step, run}

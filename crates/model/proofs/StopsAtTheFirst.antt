@@ -5,6 +5,7 @@ use Prim.Native.Nat.{ℕ, suc, ◌+◌}
 use native.Mathlib.Omega.{arith}
 use lib.ListN.{length}
 use Rattle.refusals.specs.declared.details.RecordKind.{RecordKind}
+use Rattle.std.specs.Prelude.{Option, None, Some}
 use Rattle.model.specs.Fold.{State, start, step, run}
 use Rattle.model.specs.declared.room.Room.{Room}
 use Rattle.model.specs.Room.{Fits, lacking, whole, stopped, onward, read_from, read_within, StopsAt}

@@ -2,7 +2,12 @@
 ghost use Rattle.std.specs.Prelude.{List, ◌≡◌, ℕ, min, length};
 ghost use Rattle.model.specs.Lent.{lent_of, room_by, room_of, no_records};
 
-use field_slices::smaller;
+// The sizes: so many of each at most.
+const CHAINS: usize = 4096;
+
+const RESIDUES: usize = 65536;
+
+const ATOMS: usize = 1048576;
 
 #[derive(Clone, Copy)]
 pub struct Room {
@@ -24,7 +29,7 @@ pub fn no_records() -> Room
 fn smallest(a: usize, b: usize, c: usize, d: usize, e: usize) -> usize
     ensures { result ≡ min a (min b (min c (min d e))) }
 {
-    smaller(a, smaller(b, smaller(c, smaller(d, e))))
+    a.min(b.min(c.min(d.min(e))))
 }
 
 // By the lengths of the slices.
@@ -52,9 +57,9 @@ pub fn room_by(
     );
     let atoms = smallest(atom_keys, atom_names, elements, positions, occupancies);
     Room {
-        chains: smaller(4096, chains),
-        residues: smaller(65536, residues),
-        atoms: smaller(1048576, atoms),
+        chains: CHAINS.min(chains),
+        residues: RESIDUES.min(residues),
+        atoms: ATOMS.min(atoms),
     }
 }
 

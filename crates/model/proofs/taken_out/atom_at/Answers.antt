@@ -7,11 +7,11 @@ use Rattle.model.proofs.taken_out.atom_at.Goals as goal
 pub returns : goal.returns
 unfolding atom_out
 returns c =
-    let position = c.point_of.ensures ∙ ap point_of c.point_at.ensures in
+    let position = c.point_of.ensures ∙ ap point_of c.entry_at-4.ensures in
     λ i. record {
-      key = c.u64_at.ensures i;
-      name = c.u64_at-2.ensures i;
-      element = c.byte_at.ensures i;
+      key = c.entry_at.ensures i;
+      name = c.entry_at-2.ensures i;
+      element = c.entry_at-3.ensures i;
       position = position i;
-      occupancy = c.f64_at.ensures i;
+      occupancy = c.entry_at-5.ensures i;
     }

@@ -9,7 +9,7 @@ use Rattle.model.proofs.taken_out.residue_at.Goals as goal
 pub returns : goal.returns
 unfolding residue_out
 returns c =
-    let key = c.u64_at-key.ensures in
+    let key = c.entry_at-key.ensures in
     let chain = c.chain_part.ensures ∙ ap chain_part key in
     let moved = c.sequence_part.ensures ∙ ap sequence_part key in
     let sequence = to_z-of_z w32 _ (record { sfits = c.signed.type_inv }) ∙ c.signed.ensures ∙ ap signed moved in
@@ -18,8 +18,8 @@ returns c =
       chain = chain i;
       sequence = sequence i;
       insertion_code = code i;
-      name = c.u64_at.ensures i;
-      code = c.byte_at.ensures i;
-      category = c.byte_at-2.ensures i;
-      position = c.byte_at-3.ensures i;
+      name = c.entry_at.ensures i;
+      code = c.entry_at-2.ensures i;
+      category = c.entry_at-3.ensures i;
+      position = c.entry_at-4.ensures i;
     }
