@@ -5,6 +5,8 @@ use Rattle.field_slices.specs.Slice.{Slice, held}
 use Rattle.model.specs.Fold.{Residue, Atom, State}
 use Rattle.model.specs.Finished.{key_part, name_part}
 use Rattle.model.specs.Lent.{Lent, coordinates}
+use Rattle.model.specs.declared.lent.AtomsMut.{AtomsMut}
+use Rattle.model.specs.declared.lent.ResiduesMut.{ResiduesMut}
 use Rattle.model.specs.Lists.{count}
 use Rattle.model.specs.Map.{Entry, Map, Ascending}
 use Rattle.model.specs.declared.room.Room.{Room}
@@ -36,6 +38,10 @@ records_of chains residue_keys residue_names residue_marks atom_keys atom_names 
   positions = positions;
   occupancies = occupancies;
 }
+
+-- those of lent records, with the names of the chains; while rows are read the HETATM marks stand where the categories will
+abbrev pub records_now : List ℕ → ResiduesMut → AtomsMut → Records
+records_now chains r a = records_of chains r.keys.now r.names.now r.categories.now a.keys.now a.names.now a.elements.now a.positions.now a.occupancies.now
 
 -- those of a function's parameters, at its entry and at its exit, with the names of the chains at both
 abbrev pub records_by : Both (List ℕ) (List ℕ) → Slice ℕ → Slice ℕ → Slice ℕ → Slice ℕ → Slice ℕ → Slice ℕ → Slice (List Float) → Slice Float → Both Records Records

@@ -1,13 +1,18 @@
 -- The two kinds of record in their slices: what the slices have in an area, whether they have the room, and that they stay as long.
-use Rattle.std.specs.Prelude.{◌≡◌, List, map, ℕ, ◌≤◌, Float, length, get_or}
+use Rattle.std.specs.Prelude.{◌≡◌, List, map, cond, ℕ, ◌≤◌, Float, length, get_or, set}
+use Rattle.std.specs.Float.Ieee.{lt}
+use Rattle.std.specs.Float.{nan}
 use denote.Triple.Both.{Both}
 use Rattle.field_slices.specs.Clearing.{zero_float, zero_point}
 use Rattle.field_slices.specs.Slice.{Slice}
-use Rattle.gapped_slices.specs.Areas.{entries_in}
+use Rattle.gapped_slices.specs.Areas.{entries_in, PutsIn}
 use Rattle.gapped_slices.specs.declared.areas.Area.{Area}
 use Rattle.model.specs.Finished.{key_part, name_part}
 use Rattle.model.specs.Fold.{Residue, Atom}
 use Rattle.model.specs.Lent.{coordinates}
+use Rattle.model.specs.LentNow.{SameResidues}
+use Rattle.model.specs.declared.lent.AtomsMut.{AtomsMut}
+use Rattle.model.specs.declared.lent.ResiduesMut.{ResiduesMut}
 use Rattle.model.specs.Lists.{count}
 use Rattle.model.specs.Map.{Map}
 use Rattle.building.specs.declared.atoms.AtomEntry.{AtomEntry}
@@ -32,6 +37,14 @@ residue_entry_at r i = record { key = get_or r.keys i 0; name = get_or r.names i
 pub record IsResidue (e : ResidueEntry) (v : Residue) : Type 0 where
   pub name : e.name ≡ v.name
   pub mark : e.mark ≡ count v.hetatm
+
+-- those of lent records; while rows are read the HETATM marks stand where the categories will
+abbrev pub residues_now : ResiduesMut → ResidueSlices
+residues_now r = residues_of r.keys.now r.names.now r.categories.now
+
+-- the same slices, and standard codes and positions as they were
+abbrev pub KeepsResidues : ResiduesMut → ResiduesMut → Type 0
+KeepsResidues r after = SameResidues r after × (after.codes.now ≡ r.codes.now) × (after.positions.now ≡ r.positions.now)
 
 -- those of a function's parameters, at its entry and at its exit
 abbrev pub residues_by : Slice ℕ → Slice ℕ → Slice ℕ → Both ResidueSlices ResidueSlices
@@ -59,6 +72,12 @@ pub record ResiduesSame (r after : ResidueSlices) : Type 0 where
   pub names : length after.names ≡ length r.names
   pub marks : length after.marks ≡ length r.marks
 
+-- one more in an area, at this index
+pub record PutsResidue (a : Area) (at : ℕ) (e : ResidueEntry) (r after : ResidueSlices) : Type 0 where
+  pub keys : PutsIn a at e.key r.keys after.keys
+  pub names : PutsIn a at e.name r.names after.names
+  pub marks : PutsIn a at e.mark r.marks after.marks
+
 -- ---- atoms
 
 pub record AtomSlices : Type 0 where
@@ -70,6 +89,10 @@ pub record AtomSlices : Type 0 where
 
 abbrev pub atoms_of : List ℕ → List ℕ → List ℕ → List (List Float) → List Float → AtomSlices
 atoms_of keys names elements positions occupancies = record { keys = keys; names = names; elements = elements; positions = positions; occupancies = occupancies }
+
+-- those of lent records
+abbrev pub atoms_now : AtomsMut → AtomSlices
+atoms_now a = atoms_of a.keys.now a.names.now a.elements.now a.positions.now a.occupancies.now
 
 -- an atom by value, at an index of the slices, zeros where there is none
 abbrev pub atom_entry_at : AtomSlices → ℕ → AtomEntry
@@ -116,3 +139,18 @@ pub record AtomsSame (r after : AtomSlices) : Type 0 where
   pub elements : length after.elements ≡ length r.elements
   pub positions : length after.positions ≡ length r.positions
   pub occupancies : length after.occupancies ≡ length r.occupancies
+
+pub record PutsAtom (a : Area) (at : ℕ) (e : AtomEntry) (r after : AtomSlices) : Type 0 where
+  pub keys : PutsIn a at e.key r.keys after.keys
+  pub names : PutsIn a at e.name r.names after.names
+  pub elements : PutsIn a at e.element r.elements after.elements
+  pub positions : PutsIn a at e.position r.positions after.positions
+  pub occupancies : PutsIn a at e.occupancy r.occupancies after.occupancies
+
+-- the one at an index of the slices is replaced where its occupancy is strictly less
+pub record ReplacesAtom (at : ℕ) (e : AtomEntry) (r after : AtomSlices) : Type 0 where
+  pub keys : after.keys ≡ r.keys
+  pub names : after.names ≡ r.names
+  pub elements : after.elements ≡ cond (lt (get_or r.occupancies at nan) e.occupancy) (set r.elements at e.element) r.elements
+  pub positions : after.positions ≡ cond (lt (get_or r.occupancies at nan) e.occupancy) (set r.positions at e.position) r.positions
+  pub occupancies : after.occupancies ≡ cond (lt (get_or r.occupancies at nan) e.occupancy) (set r.occupancies at e.occupancy) r.occupancies

@@ -1,20 +1,22 @@
 // The atoms in their slices, one to a field, in the two areas of a store.
-ghost use Rattle.std.specs.Prelude.{◌≡◌, cond, get_or, set};
-ghost use Rattle.std.specs.Float.Ieee.{lt};
-ghost use Rattle.std.specs.Float.{nan};
-ghost use Rattle.gapped_slices.specs.Areas.{PutsIn};
 ghost use Rattle.model.specs.Fold.{Atom};
 ghost use Rattle.model.specs.Keys.{atom_place};
-ghost use Rattle.building.specs.Kinds.{atoms_of, atoms_by, atom_entry_at, IsAtom, AtomsIn, AtomsFirst, AtomsLong, AtomsSame};
+ghost use Rattle.model.specs.LentNow.{SameAtoms};
+ghost use Rattle.field_slices.specs.Places.{pairs, below};
+ghost use Rattle.gapped_slices.specs.Areas.{Lies, entries_in};
+ghost use Rattle.gapped_slices.specs.Spots.{Spotted};
+ghost use Rattle.building.specs.Kinds.{atoms_now, atom_entry_at, IsAtom, AtomsIn, AtomsFirst, AtomsLong, AtomsSame, PutsAtom, ReplacesAtom};
 ghost use Rattle.building.specs.Stores.{Empties, MakesRoom, PutsNew, Gathered};
+ghost use Rattle.std.specs.Prelude.{◌≡◌, length};
 
 use crate::stores::{
     Store, Way, emptied, entries_of, in_main, in_pocket, place_of, way_of, widened, with_entry,
 };
 use field_slices::{entry_at, store};
 use gapped_slices::{Area, move_in, put_in, spot_in, stand};
+use model::AtomsMut;
 
-// An atom as its slices have it, each field in one of its own.
+// An atom as its slices have it.
 #[derive(Clone, Copy)]
 pub(crate) struct AtomEntry {
     pub key: u64,
@@ -25,216 +27,133 @@ pub(crate) struct AtomEntry {
 }
 
 // One more in an area, at this index.
-fn put_atom(
-    keys: &mut [u64],
-    names: &mut [u64],
-    elements: &mut [u8],
-    positions: &mut [[f64; 3]],
-    occupancies: &mut [f64],
-    area: Area,
-    at: usize,
-    atom: AtomEntry,
-)
-    ensures puts_in { PutsIn area at atom.key keys.old keys.new }
-    ensures puts_in_2 { PutsIn area at atom.name names.old names.new }
-    ensures puts_in_3 { PutsIn area at atom.element elements.old elements.new }
-    ensures puts_in_4 { PutsIn area at atom.position positions.old positions.new }
-    ensures puts_in_5 { PutsIn area at atom.occupancy occupancies.old occupancies.new }
+fn put_atom(atoms: &mut AtomsMut<'_>, area: Area, at: usize, atom: AtomEntry)
+    ensures same { SameAtoms atoms.old atoms.new }
+    ensures puts { PutsAtom area at atom (atoms_now atoms.old) (atoms_now atoms.new) }
 {
-    put_in(keys, area, at, atom.key);
-    put_in(names, area, at, atom.name);
-    put_in(elements, area, at, atom.element);
-    put_in(positions, area, at, atom.position);
-    put_in(occupancies, area, at, atom.occupancy);
+    put_in(atoms.keys, area, at, atom.key);
+    put_in(atoms.names, area, at, atom.name);
+    put_in(atoms.elements, area, at, atom.element);
+    put_in(atoms.positions, area, at, atom.position);
+    put_in(atoms.occupancies, area, at, atom.occupancy);
 }
 
 // The atom at this index of the slices, zero in each field where there is none.
-fn atom_at(
-    keys: &[u64],
-    names: &[u64],
-    elements: &[u8],
-    positions: &[[f64; 3]],
-    occupancies: &[f64],
-    at: usize,
-) -> AtomEntry
-    ensures { result ≡ atom_entry_at (atoms_of keys.now names.now elements.now positions.now occupancies.now) at }
+fn atom_at(atoms: &AtomsMut<'_>, at: usize) -> AtomEntry
+    ensures { result ≡ atom_entry_at (atoms_now atoms.now) at }
 {
     AtomEntry {
-        key: entry_at(keys, at, 0),
-        name: entry_at(names, at, 0),
-        element: entry_at(elements, at, 0),
-        position: entry_at(positions, at, [0.0; 3]),
-        occupancy: entry_at(occupancies, at, 0.0),
+        key: entry_at(atoms.keys, at, 0),
+        name: entry_at(atoms.names, at, 0),
+        element: entry_at(atoms.elements, at, 0),
+        position: entry_at(atoms.positions, at, [0.0; 3]),
+        occupancy: entry_at(atoms.occupancies, at, 0.0),
     }
 }
 
+// Where an atom is in an area, or as an error where it goes.
+pub(crate) fn atom_spot(
+    atoms: &AtomsMut<'_>,
+    area: Area,
+    key: u64,
+    name: u64,
+) -> Result<usize, usize>
+    ensures { let k = atoms.now.keys.now in let n = atoms.now.names.now in
+        Lies area (length k) → Lies area (length n) → Spotted below (pairs (entries_in area k) (entries_in area n)) (key, name) result }
+{
+    spot_in(atoms.keys, atoms.names, area, key, name)
+}
+
 // Those of the pocket go over into main in their order, in one sweep of its gap.
-fn empty_pocket(
-    keys: &mut [u64],
-    names: &mut [u64],
-    elements: &mut [u8],
-    positions: &mut [[f64; 3]],
-    occupancies: &mut [f64],
-    store: Store,
-) -> Store
-    ensures { let l = atoms_by keys names elements positions occupancies in
-        Empties (AtomsSame l.entry l.exit) (AtomsLong l.entry) (AtomsIn l.entry) (AtomsIn l.exit) store result }
+fn empty_pocket(atoms: &mut AtomsMut<'_>, store: Store) -> Store
+    ensures same { SameAtoms atoms.old atoms.new }
+    ensures empties { let r = atoms_now atoms.old in let after = atoms_now atoms.new in
+        Empties (AtomsSame r after) (AtomsLong r) (AtomsIn r) (AtomsIn after) store result }
 {
     let pocket = store.pocket;
+    let many = entries_of(pocket);
     let mut main = store.main;
-    for k in 0..entries_of(pocket) {
+    for k in 0..many {
         let from = stand(pocket, k);
-        let atom = atom_at(keys, names, elements, positions, occupancies, from);
-        let at = place_of(spot_in(keys, names, main, atom.key, atom.name));
-        put_atom(
-            keys,
-            names,
-            elements,
-            positions,
-            occupancies,
-            main,
-            at,
-            atom,
-        );
+        let atom = atom_at(atoms, from);
+        let at = place_of(atom_spot(atoms, main, atom.key, atom.name));
+        put_atom(atoms, main, at, atom);
         main = with_entry(main, at);
     }
     Store {
         main,
         pocket: emptied(pocket),
-        credit: store.credit,
+        ..store
     }
 }
 
 // Room in main for one more.
-fn make_room(
-    keys: &mut [u64],
-    names: &mut [u64],
-    elements: &mut [u8],
-    positions: &mut [[f64; 3]],
-    occupancies: &mut [f64],
-    room: usize,
-    store: Store,
-) -> Store
-    ensures { let l = atoms_by keys names elements positions occupancies in
-        MakesRoom (AtomsSame l.entry l.exit) (AtomsLong l.entry) (AtomsIn l.entry) (AtomsIn l.exit) room store result }
+fn make_room(atoms: &mut AtomsMut<'_>, room: usize, store: Store) -> Store
+    ensures same { SameAtoms atoms.old atoms.new }
+    ensures makes { let r = atoms_now atoms.old in let after = atoms_now atoms.new in
+        MakesRoom (AtomsSame r after) (AtomsLong r) (AtomsIn r) (AtomsIn after) room store result }
 {
-    let store = empty_pocket(keys, names, elements, positions, occupancies, store);
+    let store = empty_pocket(atoms, store);
     widened(store, room)
 }
 
 // A new atom; at is its index in main.
 pub(crate) fn put_new_atom(
-    keys: &mut [u64],
-    names: &mut [u64],
-    elements: &mut [u8],
-    positions: &mut [[f64; 3]],
-    occupancies: &mut [f64],
+    atoms: &mut AtomsMut<'_>,
     room: usize,
     store: Store,
     at: usize,
     atom: AtomEntry,
 ) -> Store
-    ensures { (v : Atom) → IsAtom atom v → let l = atoms_by keys names elements positions occupancies in
-        PutsNew (AtomsSame l.entry l.exit) (AtomsLong l.entry) (AtomsIn l.entry) (AtomsIn l.exit) room store at (atom_place atom.key atom.name) v result }
+    ensures same { SameAtoms atoms.old atoms.new }
+    ensures puts { (v : Atom) → IsAtom atom v → let r = atoms_now atoms.old in let after = atoms_now atoms.new in
+        PutsNew (AtomsSame r after) (AtomsLong r) (AtomsIn r) (AtomsIn after) room store at (atom_place atom.key atom.name) v result }
 {
     match way_of(store, at) {
         Way::Main => {
-            let main = store.main;
-            put_atom(
-                keys,
-                names,
-                elements,
-                positions,
-                occupancies,
-                main,
-                at,
-                atom,
-            );
+            put_atom(atoms, store.main, at, atom);
             in_main(store, at)
         }
         Way::Pocket => {
-            let pocket = store.pocket;
-            let at = place_of(spot_in(keys, names, pocket, atom.key, atom.name));
-            put_atom(
-                keys,
-                names,
-                elements,
-                positions,
-                occupancies,
-                pocket,
-                at,
-                atom,
-            );
+            let at = place_of(atom_spot(atoms, store.pocket, atom.key, atom.name));
+            put_atom(atoms, store.pocket, at, atom);
             in_pocket(store, at)
         }
         Way::Emptied => {
-            let store = make_room(keys, names, elements, positions, occupancies, room, store);
-            let main = store.main;
-            let at = place_of(spot_in(keys, names, main, atom.key, atom.name));
-            put_atom(
-                keys,
-                names,
-                elements,
-                positions,
-                occupancies,
-                main,
-                at,
-                atom,
-            );
+            let store = make_room(atoms, room, store);
+            let at = place_of(atom_spot(atoms, store.main, atom.key, atom.name));
+            put_atom(atoms, store.main, at, atom);
             in_main(store, at)
         }
     }
 }
 
-// Whether the entry at index i is less than v; false where there is none.
-fn is_less_at(floats: &[f64], i: usize, v: f64) -> bool
-    ensures { result ≡ lt (get_or floats.now i nan) v }
-{
-    if i < floats.len() {
-        let old = floats[i];
-        return old < v;
-    }
-    false
-}
-
 // The atom that stands at this index of the slices is replaced where its occupancy is strictly less.
-pub(crate) fn replace_atom(
-    elements: &mut [u8],
-    positions: &mut [[f64; 3]],
-    occupancies: &mut [f64],
-    at: usize,
-    atom: AtomEntry,
-)
-    ensures elements_after { elements.new ≡ cond (lt (get_or occupancies.old at nan) atom.occupancy) (set elements.old at atom.element) elements.old }
-    ensures positions_after { positions.new ≡ cond (lt (get_or occupancies.old at nan) atom.occupancy) (set positions.old at atom.position) positions.old }
-    ensures occupancies_after { occupancies.new ≡ cond (lt (get_or occupancies.old at nan) atom.occupancy) (set occupancies.old at atom.occupancy) occupancies.old }
+pub(crate) fn replace_atom(atoms: &mut AtomsMut<'_>, at: usize, atom: AtomEntry)
+    ensures same { SameAtoms atoms.old atoms.new }
+    ensures replaces { ReplacesAtom at atom (atoms_now atoms.old) (atoms_now atoms.new) }
 {
-    if !is_less_at(occupancies, at, atom.occupancy) {
+    let old = entry_at(atoms.occupancies, at, f64::NAN);
+    if !(old < atom.occupancy) {
         return;
     }
-    store(elements, at, atom.element);
-    store(positions, at, atom.position);
-    store(occupancies, at, atom.occupancy);
+    store(atoms.elements, at, atom.element);
+    store(atoms.positions, at, atom.position);
+    store(atoms.occupancies, at, atom.occupancy);
 }
 
 // All of them to the front.
-pub(crate) fn gather_atoms(
-    keys: &mut [u64],
-    names: &mut [u64],
-    elements: &mut [u8],
-    positions: &mut [[f64; 3]],
-    occupancies: &mut [f64],
-    store: Store,
-)
-    ensures { let l = atoms_by keys names elements positions occupancies in
-        Gathered (AtomsSame l.entry l.exit) (AtomsLong l.entry) (AtomsIn l.entry) (AtomsFirst l.exit) store }
+pub(crate) fn gather_atoms(atoms: &mut AtomsMut<'_>, store: Store)
+    ensures same { SameAtoms atoms.old atoms.new }
+    ensures gathered { let r = atoms_now atoms.old in let after = atoms_now atoms.new in
+        Gathered (AtomsSame r after) (AtomsLong r) (AtomsIn r) (AtomsFirst after) store }
 {
-    let store = empty_pocket(keys, names, elements, positions, occupancies, store);
+    let store = empty_pocket(atoms, store);
     let main = store.main;
     let many = entries_of(main);
-    move_in(keys, main, many);
-    move_in(names, main, many);
-    move_in(elements, main, many);
-    move_in(positions, main, many);
-    move_in(occupancies, main, many);
+    move_in(atoms.keys, main, many);
+    move_in(atoms.names, main, many);
+    move_in(atoms.elements, main, many);
+    move_in(atoms.positions, main, many);
+    move_in(atoms.occupancies, main, many);
 }

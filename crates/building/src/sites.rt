@@ -1,11 +1,12 @@
 // A site put into the records: its residue and its atom at its chain's place, where there is room for what is new of them.
-ghost use Rattle.std.specs.Prelude.{◌≡◌, List, ℕ, take};
+ghost use Rattle.std.specs.Prelude.{◌≡◌, List, ℕ, take, set};
 ghost use Rattle.model.specs.Fold.{first, greater};
 ghost use Rattle.model.specs.Keys.{atom_place};
 ghost use Rattle.model.specs.Lent.{coordinates};
-ghost use Rattle.building.specs.Holds.{records_by, sizes_of};
-ghost use Rattle.building.specs.Kinds.{residues_by, ResiduesIn, ResiduesLong, ResiduesSame, atoms_by, AtomsIn, AtomsLong, AtomsSame};
-ghost use Rattle.building.specs.Sites.{SoughtFor, lack_of, residue_entry, atom_entry, with_place, one_more, counts_with, with_skipped, Did};
+ghost use Rattle.model.specs.LentNow.{SameAtoms};
+ghost use Rattle.building.specs.Holds.{records_now, sizes_of};
+ghost use Rattle.building.specs.Kinds.{residues_now, KeepsResidues, ResiduesIn, ResiduesLong, ResiduesSame, atoms_now, AtomsIn, AtomsLong, AtomsSame};
+ghost use Rattle.building.specs.Sites.{SoughtFor, lack_of, residue_entry, atom_entry, one_more, counts_with, with_skipped, Did};
 ghost use Rattle.building.specs.Slices.{ChainFound};
 ghost use Rattle.building.specs.Stores.{Puts};
 
@@ -15,7 +16,7 @@ use crate::residues::{ResidueEntry, put_new_residue};
 use crate::room::has_no_room;
 use crate::seeking::{seek_atom, seek_residue};
 use crate::stores::Store;
-use model::{Room, residue_key};
+use model::{AtomsMut, ResiduesMut, Room, residue_key};
 use refusals::RecordKind;
 use rows::{Point3, Site};
 
@@ -53,25 +54,20 @@ pub struct Places {
 // ---- where it goes
 
 fn places_of(
-    residue_keys: &[u64],
-    atom_keys: &[u64],
-    atom_names: &[u64],
+    residues: &ResiduesMut<'_>,
+    atoms: &AtomsMut<'_>,
     held: Held,
     place: usize,
     site: Site,
 ) -> Places
-    ensures { SoughtFor residue_keys.now atom_keys.now atom_names.now held place site result }
+    ensures { SoughtFor residues.now.keys.now atoms.now.keys.now atoms.now.names.now held place site result }
 {
     let key = residue_key(place, site.sequence, site.insertion_code);
-    let residues = held.residues;
-    let residue = seek_residue(residue_keys, residues, key);
-    let atoms = held.atoms;
-    let atom = seek_atom(atom_keys, atom_names, atoms, key, site.atom);
     Places {
         chain: place,
-        key: key,
-        residue: residue,
-        atom: atom,
+        key,
+        residue: seek_residue(residues, held.residues, key),
+        atom: seek_atom(atoms, held.atoms, key, site.atom),
     }
 }
 
@@ -128,13 +124,7 @@ fn atom_entry(key: u64, site: Site) -> AtomEntry
 fn one_more(more: bool, n: usize) -> usize
     ensures { result ≡ one_more more n }
 {
-    if !more {
-        return n;
-    }
-    if 18446744073709551615 <= n {
-        return n;
-    }
-    n + 1
+    n.saturating_add(more as usize)
 }
 
 fn counts_with(counts: Counts, places: Places, assumed: bool) -> Counts
@@ -156,82 +146,53 @@ pub fn skip_row(held: Held) -> Held
     ensures { result ≡ with_skipped held }
 {
     let counts = held.counts;
-    let residues = held.residues;
-    let atoms = held.atoms;
     Held {
         counts: Counts {
-            chains: counts.chains,
-            residues: counts.residues,
-            atoms: counts.atoms,
             rows: one_more(true, counts.rows),
             skipped: one_more(true, counts.skipped),
-            outdone: counts.outdone,
-            assumed: counts.assumed,
+            ..counts
         },
-        residues,
-        atoms,
+        ..held
     }
 }
 
 // A residue that was met before keeps what its first row said.
 fn store_residue(
-    keys: &mut [u64],
-    names: &mut [u64],
-    marks: &mut [u8],
+    residues: &mut ResiduesMut<'_>,
     room: usize,
     store: Store,
     places: Places,
     site: Site,
 ) -> Store
-    ensures { let l = residues_by keys names marks in
-        Puts (ResiduesSame l.entry l.exit) (ResiduesLong l.entry) (ResiduesIn l.entry) (ResiduesIn l.exit) room store places.residue places.key (first site) result }
+    ensures same { KeepsResidues residues.old residues.new }
+    ensures puts { let r = residues_now residues.old in let after = residues_now residues.new in
+        Puts (ResiduesSame r after) (ResiduesLong r) (ResiduesIn r) (ResiduesIn after) room store places.residue places.key (first site) result }
 {
     match places.residue {
         Ok(_) => store,
-        Err(at) => put_new_residue(
-            keys,
-            names,
-            marks,
-            room,
-            store,
-            at,
-            residue_entry(places.key, site),
-        ),
+        Err(at) => put_new_residue(residues, room, store, at, residue_entry(places.key, site)),
     }
 }
 
 // An atom that was met before is replaced only by one with a strictly greater occupancy.
 fn store_atom(
-    keys: &mut [u64],
-    names: &mut [u64],
-    elements: &mut [u8],
-    positions: &mut [[f64; 3]],
-    occupancies: &mut [f64],
+    atoms: &mut AtomsMut<'_>,
     room: usize,
     store: Store,
     places: Places,
     site: Site,
 ) -> Store
-    ensures { let l = atoms_by keys names elements positions occupancies in
-        Puts (AtomsSame l.entry l.exit) (AtomsLong l.entry) (AtomsIn l.entry) (AtomsIn l.exit) room store places.atom (atom_place places.key site.atom) (greater site) result }
+    ensures same { SameAtoms atoms.old atoms.new }
+    ensures puts { let r = atoms_now atoms.old in let after = atoms_now atoms.new in
+        Puts (AtomsSame r after) (AtomsLong r) (AtomsIn r) (AtomsIn after) room store places.atom (atom_place places.key site.atom) (greater site) result }
 {
     let atom = atom_entry(places.key, site);
     match places.atom {
         Ok(at) => {
-            replace_atom(elements, positions, occupancies, at, atom);
+            replace_atom(atoms, at, atom);
             store
         }
-        Err(at) => put_new_atom(
-            keys,
-            names,
-            elements,
-            positions,
-            occupancies,
-            room,
-            store,
-            at,
-            atom,
-        ),
+        Err(at) => put_new_atom(atoms, room, store, at, atom),
     }
 }
 
@@ -239,51 +200,26 @@ fn store_atom(
 // chain list, which is its end where the chain is new; the list gets the name there from whoever holds it. The error is what has no room, and then
 // residues and atoms are as they were.
 pub fn put_site(
-    residue_keys: &mut [u64],
-    residue_names: &mut [u64],
-    residue_marks: &mut [u8],
-    atom_keys: &mut [u64],
-    atom_names: &mut [u64],
-    elements: &mut [u8],
-    positions: &mut [[f64; 3]],
-    occupancies: &mut [f64],
+    residues: &mut ResiduesMut<'_>,
+    atoms: &mut AtomsMut<'_>,
     room: Room,
     held: Held,
     place: usize,
     site: Site,
 ) -> Result<Held, RecordKind>
-    ensures { (chains : List ℕ) → ChainFound (take held.counts.chains chains) site.chain place →
-        let l = records_by (with_place chains place site.chain) residue_keys residue_names residue_marks atom_keys atom_names elements positions occupancies in
-        Did l.entry room held site result l.exit }
+    ensures same { KeepsResidues residues.old residues.new }
+    ensures same_atoms { SameAtoms atoms.old atoms.new }
+    ensures did { (chains : List ℕ) → ChainFound (take held.counts.chains chains) site.chain place →
+        Did (records_now chains residues.old atoms.old) room held site result (records_now (set chains place site.chain) residues.new atoms.new) }
 {
-    let places = places_of(residue_keys, atom_keys, atom_names, held, place, site);
+    let places = places_of(residues, atoms, held, place, site);
     let counts = held.counts;
     if let Some(kind) = lack_of(room, counts, places) {
         return Err(kind);
     }
-    let residues = store_residue(
-        residue_keys,
-        residue_names,
-        residue_marks,
-        room.residues,
-        held.residues,
-        places,
-        site,
-    );
-    let atoms = store_atom(
-        atom_keys,
-        atom_names,
-        elements,
-        positions,
-        occupancies,
-        room.atoms,
-        held.atoms,
-        places,
-        site,
-    );
     Ok(Held {
         counts: counts_with(counts, places, site.assumed),
-        residues,
-        atoms,
+        residues: store_residue(residues, room.residues, held.residues, places, site),
+        atoms: store_atom(atoms, room.atoms, held.atoms, places, site),
     })
 }

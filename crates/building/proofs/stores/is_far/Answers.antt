@@ -1,7 +1,7 @@
--- The distance is the definition's.
-use mathlib.Core.Path.{ap}
+-- How far the gap is from the index is what the definition says.
+use mathlib.Core.Path.{ap, ◌∙◌}
 use lib.Dec.{ltb}
 use Rattle.building.proofs.stores.is_far.Goals as goal
 
 pub returns : goal.returns
-returns c = ap (ltb c.args.store.credit) c.distance.ensures
+returns c = ?
