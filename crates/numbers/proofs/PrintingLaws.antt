@@ -7,10 +7,11 @@ use Prim.Native.Nat.{ℕ, zero, suc, ◌+◌, ◌/◌, ◌%◌, ◌^◌, ◌≤�
 use native.Mathlib.Nat.{le_refl, le_trans, le_antisymm, lt_irrefl, lt_of_lt_of_le, le_of_suc-le-suc, pow-suc, zero-lt-suc, div-lt_iff_lt-mul}
 use native.Mathlib.Numerals.{add-one}
 use native.Mathlib.Omega.{arith}
-use lib.Dec.{T, ltb, ltb→lt, lit<, lit≤}
+use lib.Dec.{T, ltb, ltb→lt, lit<}
 use lib.ListN.{length, set, length-append}
 use lib.Seq.{sets}
 use borrow.Author.Tests.{lt-ltb}
+use mir.Val.{bool_byte}
 use Rattle.ascii.proofs.OutputLaws.{sets_last}
 use lib.Ieee.{Float}
 use Rattle.std.specs.Prelude.{Result, Err}
@@ -87,10 +88,10 @@ pub digit_count_fits : (n : ℕ) → digit_count n ≤ 20
 unfolding digit_count
 digit_count_fits n = count_fits 19 n
 
-pub sign_fits : (negative : Bool) → length (sign negative) ≤ 1
+pub sign_counts : (negative : Bool) → bool_byte negative ≡ length (sign negative)
 unfolding sign
-sign_fits true = lit≤ tt
-sign_fits false = lit≤ tt
+sign_counts true = refl
+sign_counts false = refl
 
 -- ---- digits from the right
 pub digits_length : (c n : ℕ) → length (last_digits c n) ≡ c

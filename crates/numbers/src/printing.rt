@@ -31,11 +31,9 @@ fn put_digits(out: &mut [u8], at: usize, count: usize, n: u64) -> usize
     ensures { Stored out.old at (last_digits count n) out.new result }
 {
     let mut rest = n;
-    let mut left = count;
-    while 0 < left {
-        left -= 1;
-        out[at + left] = b'0' + (rest % 10) as u8;
-        rest = rest / 10;
+    for place in (0..count).rev() {
+        out[at + place] = b'0' + (rest % 10) as u8;
+        rest /= 10;
     }
     at + count
 }
