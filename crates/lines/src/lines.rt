@@ -42,11 +42,11 @@ fn past_blocks(text: &[u8]) -> usize
     ensures { NoFeedBefore text.now result }
 {
     let (blocks, _) = text.as_chunks::<BLOCK>();
-    blocks
+    let passed = blocks
         .iter()
         .take_while(|block| has_no_feed(*block))
-        .count()
-        * BLOCK
+        .count();
+    passed * BLOCK
 }
 
 // The place of the first 10. Every byte of a text passes here, so nothing else is asked of it, and most are passed in

@@ -17,6 +17,6 @@ returns c =
     let text = c.args.text.now in
     let blocks = first_chunks 16 (length text / 16) text in
     let counted =
-    count_from_yields_List c.take_while.result _ c.count.ensures.ran (YieldsList-from_take_while _ (every is_no_feed) (YieldsList-from_slice blocks cc) c.take_while.ensures.closure c.take_while.ensures.done (λ x b q k. search (rules, tests)))
+    count_from_yields_List c.take_while.result _ c.count-passed.ensures.ran (YieldsList-from_take_while _ (every is_no_feed) (YieldsList-from_slice blocks cc) c.take_while.ensures.closure c.take_while.ensures.done (λ x b q k. search (rules, tests)))
     ∙ length-prefix_len (every is_no_feed) blocks in
     subst (λ (n : ℕ). NoFeedBefore text (n * 16)) (sym counted) (blocks_passed (length text / 16) text (omega arith))
