@@ -43,7 +43,7 @@ least : (x a b c d e f : ℕ) → x ≤ min a (min b (min c (min d (min e f)))) 
 least x a b c d e f h = (omega arith, omega arith, omega arith, omega arith)
 
 -- the slices once the walks are done
-abbrev walked : Lent → List ℕ → List ℕ → List ℕ → List ℕ → Lent
+abbrev pub walked : Lent → List ℕ → List ℕ → List ℕ → List ℕ → Lent
 walked l names codes categories positions =
     lent_of l.chains l.residue_keys names codes categories positions l.atom_keys l.atom_names l.elements l.positions l.occupancies
 

@@ -87,4 +87,7 @@ module _ (passes : ℕ → Bool) (m : Map Residue) (w : (j : ℕ) → j < length
     where
       go : (o : math.Option ℕ) → Some place ≡ place_behind 0 o → o ≡ math.some place
       go math.none q = cc
-      go (math.some k) q = cc
+      go (math.some k) q =
+          let e : place ≡ 0 + k = cc in
+          let same : k ≡ place = omega (arith, e) in
+          ap (λ (n : ℕ). math.some n) same

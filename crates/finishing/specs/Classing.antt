@@ -1,5 +1,5 @@
 -- What a walk over residues and atoms in their order says of each residue, by its index: what it is, and whether it is unknown.
-use Rattle.std.specs.Prelude.{◌≡◌, Bool, ◌&&◌, cond, List, ℕ, zero, suc, ◌+◌, eqb, get_or, set, drop, Option, Some, None}
+use Rattle.std.specs.Prelude.{◌≡◌, Bool, ◌&&◌, cond, List, ℕ, zero, suc, ◌+◌, eqb, get_or, set, drop, length, Option, Some, None}
 use Rattle.model.specs.Classes.{class_of}
 use Rattle.model.specs.Neighbours.{lessers, alone_in}
 use Rattle.model.specs.declared.classes.Class.{Class}
@@ -45,7 +45,13 @@ pub record ClassStored (c : Class) (i : ℕ) (r after : ResiduesMut) : Type 0 wh
   pub keys : after.keys.now ≡ r.keys.now
   pub positions : after.positions.now ≡ r.positions.now
 
+-- these slices are as long as they were
+abbrev pub ClassesAsLong : ResiduesMut → ResiduesMut → Type 0
+ClassesAsLong r after =
+    (length after.names.now ≡ length r.names.now) × (length after.codes.now ≡ length r.codes.now) × (length after.categories.now ≡ length r.categories.now)
+
 pub record Classifies (r : ResiduesMut) (atoms : List ℕ) (n : ℕ) (unknown : Option ℕ) (after : ResiduesMut) : Type 0 where
   pub classified : Classified r.keys.now r.names.now r.codes.now r.categories.now atoms n unknown after.names.now after.codes.now after.categories.now
   pub keys : after.keys.now ≡ r.keys.now
   pub positions : after.positions.now ≡ r.positions.now
+  pub long : ClassesAsLong r after

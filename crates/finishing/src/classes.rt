@@ -6,27 +6,40 @@ ghost use Rattle.finishing.specs.Classing.{is_unknown_by, ClassStored, Classifie
 
 use building::Counts;
 use field_slices::{entry_at, store};
-use model::{AtomsMut, ResiduesMut, class_of, is_alone, pass_lesser};
+use model::{AtomsMut, Class, ResiduesMut, class_of, is_alone, pass_lesser};
 
-// Neither resolved nor HETATM.
-fn is_unknown(code: u8, mark: u8) -> bool
-    ensures { result ≡ is_unknown_by code mark }
+// What residue i is, by the name that stands in its records.
+fn class_in(residues: &ResiduesMut<'_>, i: usize, lone: bool) -> Class
+    ensures { result ≡ class_of (get_or residues.now.names.now i 0) lone }
 {
-    code == 0 && mark == 0
+    class_of(entry_at(residues.names, i, 0), lone)
 }
 
-// Residue i: what it is goes into its records, its category over the HETATM mark; the answer is whether it is unknown.
+// Neither resolved nor HETATM, whose mark stands where the category will.
+fn is_unknown(residues: &ResiduesMut<'_>, i: usize, code: u8) -> bool
+    ensures { result ≡ is_unknown_by code (get_or residues.now.categories.now i 0) }
+{
+    code == 0 && entry_at(residues.categories, i, 0) == 0
+}
+
+// What residue i is goes into its records, its category over the HETATM mark; the answer is whether it is unknown.
 fn classify_residue(residues: &mut ResiduesMut<'_>, i: usize, lone: bool) -> bool
     ensures same { SameResidues residues.old residues.new }
     ensures value { result ≡ is_unknown_by (class_of (get_or residues.old.names.now i 0) lone).code (get_or residues.old.categories.now i 0) }
     ensures stored { ClassStored (class_of (get_or residues.old.names.now i 0) lone) i residues.old residues.new }
 {
-    let mark = entry_at(residues.categories, i, 0);
-    let class = class_of(entry_at(residues.names, i, 0), lone);
+    let class = class_in(residues, i, lone);
+    let unknown = is_unknown(residues, i, class.code);
     store(residues.names, i, class.name);
     store(residues.codes, i, class.code);
     store(residues.categories, i, class.category);
-    is_unknown(class.code, mark)
+    unknown
+}
+
+fn key_at(residues: &ResiduesMut<'_>, i: usize) -> u64
+    ensures { result ≡ get_or residues.now.keys.now i 0 }
+{
+    entry_at(residues.keys, i, 0)
 }
 
 // The place of the first unknown residue, from 1; where each is known, what each is stands in its records. Residues and atoms are in one order,
@@ -41,7 +54,7 @@ pub(crate) fn classify_residues(
 {
     let mut at = 0;
     for i in 0..counts.residues {
-        let key = entry_at(residues.keys, i, 0);
+        let key = key_at(residues, i);
         at = pass_lesser(atoms.keys, counts.atoms, at, key);
         let lone = is_alone(atoms.keys, counts.atoms, at, key);
         if classify_residue(residues, i, lone) {
