@@ -1,8 +1,10 @@
 // The records of a model, lent for reading: one shared slice to a field, passed together by value.
 ghost use Rattle.std.specs.Prelude.{◌≡◌};
 ghost use Rattle.model.specs.Lent.{room_of, residue_in, atom_in, lent_in};
+ghost use Rattle.model.specs.LentNow.{lent_now};
 ghost use Rattle.model.specs.TakenOut.{residue_out, atom_out};
 
+use crate::lent::{AtomsMut, ResiduesMut};
 use crate::room::{self, Room};
 use crate::taken_out::{self, Atom, Residue};
 
@@ -22,6 +24,29 @@ pub struct Records<'a> {
 }
 
 impl<'a> Records<'a> {
+    // What is lent to be written, lent on to be read.
+    pub fn of_lent(
+        chains: &'a [u64],
+        residues: &'a ResiduesMut<'_>,
+        atoms: &'a AtomsMut<'_>,
+    ) -> Records<'a>
+        ensures { lent_in result ≡ lent_now chains.now residues.now atoms.now }
+    {
+        Records {
+            chains,
+            residue_keys: residues.keys,
+            residue_names: residues.names,
+            residue_codes: residues.codes,
+            residue_categories: residues.categories,
+            residue_positions: residues.positions,
+            atom_keys: atoms.keys,
+            atom_names: atoms.names,
+            elements: atoms.elements,
+            positions: atoms.positions,
+            occupancies: atoms.occupancies,
+        }
+    }
+
     // The room of the lent slices.
     pub fn room(self) -> Room
         ensures { result ≡ room_of (lent_in self.entry) }
