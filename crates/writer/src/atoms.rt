@@ -36,7 +36,7 @@ fn put_atom_rows(out: &mut [u8], at: usize, records: Records, counts: Room) -> u
     requires { Walkable records.chains.now counts }
     ensures { let l = lent_in records.entry in well_formed_in l counts ≡ true → Emits out at (atoms_of (model_in l counts)) result }
 {
-    let chains = &records.chains[0..counts.chains];
+    let chains = &records.chains[..counts.chains];
     let mut place = at;
     let mut walk = begin_walk(records);
     for i in 0..counts.atoms {

@@ -15,6 +15,7 @@ pub struct Walk {
 }
 
 // The number of a residue, after one of a number and a chain: each chain starts anew.
+#[tactic(auto, unfolding(crate::specs::PolymerNumbers::number_after))]
 pub(crate) fn number_after(number: u64, chain: u64, residue: Residue) -> u64
     requires { number + 1 < 2 ^ 64 }
     ensures { result ≡ number_after number chain residue }

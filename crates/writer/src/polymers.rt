@@ -11,7 +11,8 @@ ghost use Rattle.writer.specs.PolymerNumbers.{polymer_by, polymers_of};
 use crate::headers::put_polymer_headers;
 use crate::polymer_numbers::number_after;
 use ascii::byte_at;
-use model::{Records, Residue, is_polymer};
+use field_slices::entry_at;
+use model::{Records, Residue, chain_part, is_polymer};
 use row_texts::{PolymerRow, put_polymer_row, put_word};
 
 fn has_polymers(codes: &[u8], n: usize) -> bool
@@ -50,7 +51,8 @@ fn put_polymer_rows(out: &mut [u8], at: usize, records: Records, n: usize) -> us
     for i in 0..n {
         let residue = records.residue_at(i);
         number = number_after(number, chain, residue);
-        chain = residue.chain;
+        // Of the key, whose range bounds it.
+        chain = chain_part(entry_at(records.residue_keys, i, 0));
         place = put_polymer(out, place, residue, number);
     }
     place

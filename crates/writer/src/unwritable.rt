@@ -26,6 +26,7 @@ fn holds(name: u64, b: u8) -> bool
     false
 }
 
+#[tactic(auto, unfolding(crate::specs::Unwritable::holds_both_quotes))]
 fn holds_both_quotes(name: u64) -> bool
     ensures { result ≡ holds_both_quotes name }
 {
@@ -33,6 +34,7 @@ fn holds_both_quotes(name: u64) -> bool
 }
 
 // Blank, tab, quote, `.` or `?`.
+#[tactic(auto, unfolding(crate::specs::Unwritable::is_unwritable_code))]
 fn is_unwritable_code(code: u8) -> bool
     ensures { result ≡ is_unwritable_code code }
 {
@@ -54,7 +56,7 @@ pub(crate) fn first_unwritable(records: Records, counts: Room) -> Option<usize>
     requires { Walkable records.chains.now counts }
     ensures { let l = lent_in records.entry in well_formed_in l counts ≡ true → result ≡ unwritable_in (model_in l counts) }
 {
-    let chains = &records.chains[0..counts.chains];
+    let chains = &records.chains[..counts.chains];
     let mut walk = begin_walk(records);
     for i in 0..counts.atoms {
         let atom = records.atom_at(i);

@@ -65,8 +65,8 @@ pub fn write_well_formed(records: Records, counts: Room, out: &mut [u8]) -> Resu
 pub fn write_by_names(records: Records, counts: Room, out: &mut [u8]) -> Result<usize, Reason>
     ensures { Writes out (write_of (lent_in records.entry) counts) result }
 {
-    if !is_well_formed(records, counts) {
-        return Err(Reason::NotWellFormed);
+    if is_well_formed(records, counts) {
+        return write_well_formed(records, counts, out);
     }
-    write_well_formed(records, counts, out)
+    Err(Reason::NotWellFormed)
 }

@@ -14,12 +14,6 @@ walk_to-walk-requires c =
     let b = c.loop-i.invariant.0.bounded in
     (omega (arith, b.entered, c.loop-i-test.true, c.requires.1), omega (arith, b.counted, c.loop-i-test.true, c.requires.1))
 
-pub overflow_add-i : goal.overflow_add-i
-overflow_add-i c = omega (arith, c.loop-i-test.true, c.requires.1)
-
-pub atom_row-row-requires : goal.atom_row-row-requires
-atom_row-row-requires c = c.requires.0
-
 pub loop-i-preserved : goal.loop-i-preserved
 loop-i-preserved c =
     let l = c.loop-i in

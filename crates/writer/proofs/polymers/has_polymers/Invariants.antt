@@ -1,5 +1,4 @@
 use mathlib.Core.Path.{◌≡◌}
-use Prim.Native.Nat.{◌-◌}
 use Rattle.model.specs.Lent.{list_from}
 use Rattle.model.specs.Lists.{any}
 use Rattle.model.specs.Termini.{is_polymer}
@@ -9,6 +8,3 @@ use Rattle.writer.proofs.polymers.has_polymers.Given as goal
 
 abbrev pub invariant-loop-i : goal.invariant-loop-i
 invariant-loop-i l = any is_polymer (list_from (entries l.codes) 0 l.n) ≡ any is_polymer (rest (entries l.codes) l.n l.i)
-
-abbrev pub decreases-loop-i : goal.decreases-loop-i
-decreases-loop-i l = l.n - l.i
