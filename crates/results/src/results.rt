@@ -29,14 +29,14 @@ fn numbers_of(answer: Result<Served, Refusal>) -> [usize; 7]
     ensures { result ≡ numbers_in answer }
 {
     match answer {
-        Ok(Served { written, counts }) => [
+        Ok(served) => [
             0,
             0,
-            written,
-            counts.rows,
-            counts.skipped,
-            counts.outdone,
-            counts.assumed,
+            served.written,
+            served.counts.rows,
+            served.counts.skipped,
+            served.counts.outdone,
+            served.counts.assumed,
         ],
         Err(why) => {
             let reason = why.reason;

@@ -5,7 +5,7 @@ use Rattle.results.specs.Results.{numbers_in}
 use Rattle.results.proofs.results.numbers_of.Goals as goal
 
 pub returns-in-Ok : goal.returns-in-Ok
-returns-in-Ok c = ?
+returns-in-Ok c = sym (ap numbers_in c.in-Ok.is)
 
 pub returns-in-Err : goal.returns-in-Err
 returns-in-Err c =
