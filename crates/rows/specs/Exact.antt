@@ -9,6 +9,7 @@ use Rattle.refusals.specs.declared.details.Quantity.TheVariants.{Coordinate, Occ
 use Rattle.refusals.specs.declared.reasons.Reason.{Reason}
 use Rattle.refusals.specs.declared.reasons.Reason.TheVariants.{ColumnMissing, RowShort, OutsideGrammar, BeyondReach, NameTooLong}
 use Rattle.rows.specs.declared.fields.Fields.{Fields}
+use Rattle.rows.specs.declared.fields.ReachError.TheVariants as reach
 use Rattle.rows.specs.declared.rules.Point3.{Point3}
 use Rattle.rows.specs.Fields.{Number}
 
@@ -36,9 +37,9 @@ pub data Fails (axis : Axis) : Number → Reason → Type 0 where
 
 pub data RowEarns (f : Fields) : Reason → Type 0 where
   -- 1
-  missing : {column : Column} → f.reach ≡ Err (ColumnMissing column) → RowEarns f (ColumnMissing column)
+  missing : {column : Column} → f.reach ≡ Err (reach.ColumnMissing column) → RowEarns f (ColumnMissing column)
   -- 2, 3
-  short : f.reach ≡ Err RowShort → RowEarns f RowShort
+  short : f.reach ≡ Err reach.Short → RowEarns f RowShort
   -- 5
   fails_x : {a b c : Number} {why : Reason} → Reaches f a b c → Fails X a why → RowEarns f why
   fails_y : {x : Float} {b c : Number} {why : Reason} → Reaches f (Ok x) b c → Fails Y b why → RowEarns f why

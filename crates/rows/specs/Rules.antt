@@ -18,6 +18,7 @@ use Rattle.rows.specs.declared.settings.Settings.{Settings}
 use Rattle.rows.specs.declared.settings.Unreadable.{Unreadable}
 use Rattle.rows.specs.declared.settings.Unreadable.TheVariants.{Assumed}
 use Rattle.rows.specs.Fields.{Number, Measure}
+use Rattle.rows.specs.Reach.{Reach, reason_of}
 
 -- what becomes of a row: it is refused, skipped, or kept as a site
 abbrev pub Row : Type 0
@@ -100,5 +101,9 @@ unfoldable pub reached : Settings → Fields → Row
 reached settings f = given_all f.x f.y f.z (located settings f)
 
 -- 1 to 3
+abbrev pub by_reach : Reach → Row → Row
+by_reach (Err e) row = Err (reason_of e)
+by_reach (Ok tt) row = row
+
 unfoldable pub row_of : Settings → Fields → Row
-row_of settings f = passing f.reach (λ _. reached settings f)
+row_of settings f = by_reach f.reach (reached settings f)

@@ -2,7 +2,7 @@
 ghost use Rattle.std.specs.Prelude.{◌≡◌};
 ghost use Rattle.rows.specs.Rules.{too_long, named, unread, occupancy_of, coordinate_of, position_of, row_of};
 
-use crate::fields::{Fields, Measure, Name};
+use crate::fields::{Fields, Measure, Name, Number};
 use crate::settings::{Settings, Unreadable};
 use numbers::NumberError;
 use refusals::{Axis, Label, Quantity, Reason};
@@ -101,7 +101,7 @@ fn occupied(settings: Settings, occupancy: Measure) -> Result<Occupancy, Reason>
 }
 
 // One of a position's three numbers.
-fn coordinate_of(axis: Axis, n: Result<f64, NumberError>) -> Result<f64, Reason>
+fn coordinate_of(axis: Axis, n: Number) -> Result<f64, Reason>
     ensures { result ≡ coordinate_of axis n }
 {
     match n {
@@ -112,11 +112,7 @@ fn coordinate_of(axis: Axis, n: Result<f64, NumberError>) -> Result<f64, Reason>
 }
 
 // Step 5.
-fn located(
-    x: Result<f64, NumberError>,
-    y: Result<f64, NumberError>,
-    z: Result<f64, NumberError>,
-) -> Result<Point3, Reason>
+fn located(x: Number, y: Number, z: Number) -> Result<Point3, Reason>
     ensures { result ≡ position_of x y z }
 {
     let x = coordinate_of(Axis::X, x)?;

@@ -1,28 +1,14 @@
--- An absent column is not asked for; else what lies between the column's two places is the token.
-use mathlib.Core.Path.{ap, ◌∙◌}
-use Prim.Native.Nat.{◌<◌}
-use native.Mathlib.Omega.{arith}
+-- An absent column is not asked for; else it is asked for what its token says.
+use mathlib.Core.Path.{◌∙◌}
 use Rattle.names.specs.Elements.{element_of}
 use Rattle.rows.specs.Fields.{element_at}
-use Rattle.rows.proofs.CaseLaws.{by_true, by_false}
-use Rattle.rows.proofs.CellLaws.{lent}
+use Rattle.rows.proofs.DeclaredLaws.{some_declared, none_declared}
 use Rattle.rows.proofs.fields.element_at.Goals as goal
 
-pub returns-then-is_absent : goal.returns-then-is_absent
+pub returns-in-Some : goal.returns-in-Some
 unfolding element_at
-returns-then-is_absent c line held = by_true _ _ c.is_absent.ensures c.if-is_absent.true
+returns-in-Some c line held = c.element_of.ensures ∙ some_declared element_of 0 c.args.column _ (c.in-Some.ensures line held)
 
-pub slice_bounds-element_of-count : goal.slice_bounds-element_of-count
-slice_bounds-element_of-count c = c.part_at-part.ensures.ordered
-
-pub slice_bounds-element_of-start : goal.slice_bounds-element_of-start
-slice_bounds-element_of-start c = c.part_at-part.ensures.ordered
-
-pub slice_bounds-element_of-end : goal.slice_bounds-element_of-end
-slice_bounds-element_of-end c = c.part_at-part.ensures.within
-
-pub returns : goal.returns
+pub returns-in-None : goal.returns-in-None
 unfolding element_at
-returns c line held =
-    let small : c.args.column < 256 = omega arith in
-    c.element_of.ensures ∙ ap element_of (lent c.part_at-part.ensures small held) ∙ by_false _ _ c.is_absent.ensures c.if-is_absent.false
+returns-in-None c line held = none_declared element_of 0 c.args.column _ (c.in-None.ensures line held)

@@ -1,27 +1,13 @@
--- An absent column is not asked for; else what lies between the column's two places is the token.
-use mathlib.Core.Path.{ap, ◌∙◌}
-use Prim.Native.Nat.{◌<◌}
-use native.Mathlib.Omega.{arith}
+-- An absent column is not asked for; else it is asked for what its token says.
+use mathlib.Core.Path.{◌∙◌}
 use Rattle.rows.specs.Fields.{insertion_code_of, insertion_code_at}
-use Rattle.rows.proofs.CaseLaws.{by_true, by_false}
-use Rattle.rows.proofs.CellLaws.{lent}
+use Rattle.rows.proofs.DeclaredLaws.{some_declared, none_declared}
 use Rattle.rows.proofs.fields.insertion_code_at.Goals as goal
 
-pub returns-then-is_absent : goal.returns-then-is_absent
+pub returns-in-Some : goal.returns-in-Some
 unfolding insertion_code_at
-returns-then-is_absent c line held = by_true _ _ c.is_absent.ensures c.if-is_absent.true
+returns-in-Some c line held = c.insertion_code_of.ensures ∙ some_declared insertion_code_of 0 c.args.column _ (c.in-Some.ensures line held)
 
-pub slice_bounds-insertion_code_of-count : goal.slice_bounds-insertion_code_of-count
-slice_bounds-insertion_code_of-count c = c.part_at-part.ensures.ordered
-
-pub slice_bounds-insertion_code_of-start : goal.slice_bounds-insertion_code_of-start
-slice_bounds-insertion_code_of-start c = c.part_at-part.ensures.ordered
-
-pub slice_bounds-insertion_code_of-end : goal.slice_bounds-insertion_code_of-end
-slice_bounds-insertion_code_of-end c = c.part_at-part.ensures.within
-
-pub returns : goal.returns
+pub returns-in-None : goal.returns-in-None
 unfolding insertion_code_at
-returns c line held =
-    let small : c.args.column < 256 = omega arith in
-    c.insertion_code_of.ensures ∙ ap insertion_code_of (lent c.part_at-part.ensures small held) ∙ by_false _ _ c.is_absent.ensures c.if-is_absent.false
+returns-in-None c line held = none_declared insertion_code_of 0 c.args.column _ (c.in-None.ensures line held)

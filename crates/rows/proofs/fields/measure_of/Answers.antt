@@ -1,6 +1,6 @@
 -- A missing number is missing, any other is what the text says.
 use mathlib.Core.Path.{ap, ◌∙◌}
-use Rattle.rows.specs.declared.fields.Measure.TheVariants.{Given}
+use Rattle.std.specs.Prelude.{Some}
 use Rattle.rows.proofs.CaseLaws.{by_true, by_false}
 use Rattle.rows.proofs.fields.measure_of.Goals as goal
 
@@ -8,4 +8,4 @@ pub returns-then-is_missing : goal.returns-then-is_missing
 returns-then-is_missing c = by_true _ _ c.is_missing.ensures c.if-is_missing.true
 
 pub returns : goal.returns
-returns c = ap Given c.read_number.ensures ∙ by_false _ _ c.is_missing.ensures c.if-is_missing.false
+returns c = ap Some c.read_number.ensures ∙ by_false _ _ c.is_missing.ensures c.if-is_missing.false
