@@ -4,16 +4,11 @@ ghost use Rattle.row_texts.specs.Emitted.{Emits, place_after};
 
 use ascii::NoRoom;
 
-const LAST: usize = 0xffff_ffff_ffff_ffff;
-
 // The place n bytes on. Past the last place there is none: no buffer reaches so far.
 pub(crate) fn place_on(at: usize, n: usize) -> usize
     ensures { at + n < 2 ^ 64 → result ≡ at + n }
 {
-    if LAST - at < n {
-        return LAST;
-    }
-    at + n
+    at.saturating_add(n)
 }
 
 pub(crate) fn place_after(at: usize, placed: Result<usize, NoRoom>) -> usize

@@ -32,10 +32,10 @@ pub(crate) fn put_sequence(out: &mut [u8], at: usize, sequence: u32) -> usize
 pub(crate) fn put_name(out: &mut [u8], at: usize, name: u64) -> usize
     ensures { Emits out at (name_text name) result }
 {
-    if plain_length(name) == 0 {
-        return put_quoted(out, at, name);
+    match plain_length(name) {
+        Some(_) => put_packed(out, at, name),
+        None => put_quoted(out, at, name),
     }
-    put_packed(out, at, name)
 }
 
 // Any packed name, also one that needs quotes: by way of its text.

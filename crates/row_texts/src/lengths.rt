@@ -26,8 +26,7 @@ pub(crate) fn sequence_length(sequence: u32) -> usize
 pub(crate) fn name_length(name: u64) -> usize
     ensures { FieldLength (name_text name) result }
 {
-    let n = plain_length(name);
-    if n != 0 {
+    if let Some(n) = plain_length(name) {
         return n;
     }
     let mut none = [0u8; 0];
