@@ -1,5 +1,6 @@
 -- The rows are put residue after residue.
-use mathlib.Core.Path.{◌≡◌, refl, sym, ap, ◌∙◌, subst}
+use mathlib.Core.Path.{◌≡◌, sym, ap, ◌∙◌, subst}
+use mathlib.Core.List.{List}
 use Prim.Native.Nat.{ℕ, ◌+◌}
 use native.Mathlib.Omega.{arith}
 use Rattle.names.specs.Places.{ascends}
@@ -16,10 +17,10 @@ use Rattle.writer.proofs.PolymerRows.{PolymersTold, polymers_begin, polymers_go,
 use Rattle.writer.proofs.polymers.put_polymer_rows.Goals as goal
 
 pub loop-i-init : goal.loop-i-init
-loop-i-init c = (polymers_begin _ _ (nothing _ _), refl)
+loop-i-init c = polymers_begin _ _ (nothing _ _)
 
 pub number_after-number-requires : goal.number_after-number-requires
-number_after-number-requires c = omega (arith, c.loop-i.invariant.0.counted, c.loop-i-test.true)
+number_after-number-requires c = omega (arith, c.loop-i.invariant.counted, c.loop-i-test.true)
 
 -- the chain of the key is the residue's
 same_chain : (r : ResidueRecord) {residue : Residue} {key chain : ℕ} → residue ≡ residue_out r → chain ≡ chain_part key → key ≡ r.key → residue.chain ≡ chain
@@ -34,15 +35,15 @@ put_polymer-place-requires c =
 pub loop-i-preserved : goal.loop-i-preserved
 loop-i-preserved c =
     let l = c.loop-i in
-    let put = c.put_polymer-place in (
-      subst (λ (chain : ℕ). PolymersTold (residue_in (lent_in c.args.records)) c.args.n (λ t. Emitted c.args.out.now c.args.at t put.result put.new.out) (l.i + 1) c.number_after-number.result chain) (same_chain _ c.residue_at-residue.ensures c.chain_part-chain.ensures c.entry_at.ensures)
-      (polymers_go _ _ c.loop-i-test.true l.invariant.0 c.residue_at-residue.ensures c.number_after-number.ensures
-          (λ t told. then told (λ _. put.ensures) c.well_formed.0.0)),
-      put.ensures.same ∙ l.invariant.1,
-    )
+    let put = c.put_polymer-place in
+    let Told : List ℕ → Type 0 = λ t. Emitted c.args.out.now c.args.at t put.result put.new.out in
+    subst (PolymersTold (residue_in (lent_in c.args.records)) c.args.n Told (l.i + 1) c.number_after-number.result)
+    (same_chain _ c.residue_at-residue.ensures c.chain_part-chain.ensures c.entry_at.ensures)
+    (polymers_go _ _ c.loop-i-test.true l.invariant c.residue_at-residue.ensures c.number_after-number.ensures
+    (λ t told. then told (λ _. put.ensures) c.well_formed.0.0))
 
 pub returns : goal.returns
 returns c =
     let a = c.args in
     let at = residue_in (lent_in a.records) in
-    λ up. polymers_end at a.n c.loop-i-test.false c.loop-i.invariant.0 (ap ascends (map_from (λ r. r.key) at 0 a.n) ∙ up)
+    λ up. polymers_end at a.n c.loop-i-test.false c.loop-i.invariant (ap ascends (map_from (λ r. r.key) at 0 a.n) ∙ up)
