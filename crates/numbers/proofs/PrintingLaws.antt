@@ -93,6 +93,11 @@ unfolding sign
 sign_counts true = refl
 sign_counts false = refl
 
+pub sign_fits : (negative : Bool) → length (sign negative) ≤ 1
+unfolding sign
+sign_fits true = omega arith
+sign_fits false = omega arith
+
 -- ---- digits from the right
 pub digits_length : (c n : ℕ) → length (last_digits c n) ≡ c
 unfolding last_digits
