@@ -18,6 +18,6 @@ pub returns : goal.returns
 returns c =
     let a = c.args in
     let size = length a.text.now in
-    let place = ap (λ (n : ℕ). onward_to a.halt n size) c.onward-at.ensures ∙ onward_twice a.halt 0 size in
+    let place = ap (λ (n : ℕ). onward_to a.halt n size) c.onward.ensures ∙ onward_twice a.halt 0 size in
     subst (λ s. GoesOnTo a.text.now a.settings s c.walk.result)
-    (λ i. stage_at (place i) 1 (c.start_heads-heads.ensures i) (record { held = c.none_held-held.ensures i; halt = a.halt })) ((c.walk.ensures []).first refl)
+    (λ i. stage_at (place i) 1 (c.start_heads.ensures i) (record { held = c.none_held.ensures i; halt = a.halt })) ((c.walk.ensures.walks []).first refl)

@@ -5,6 +5,7 @@ use mathlib.Core.List.{List, []}
 use Prim.Native.Nat.{ℕ, suc, ◌^◌, ◌<◌}
 use native.Mathlib.Omega.{arith}
 use lib.ListN.{length}
+use Rattle.std.proofs.Common.{rules}
 use Rattle.std.specs.Prelude.{Option}
 use Rattle.rows.specs.declared.settings.Settings.{Settings}
 use Rattle.acts.specs.declared.doing.Standing.{Standing}
@@ -24,18 +25,18 @@ own : (stage to : Stage) (run : Option ℕ) (more : Bool) → run ≡ run_of sta
 own stage to run more is goes-on e = sym (goes-on ∙ (λ i. is_own (is i) to.waiting)) ∙ e
 
 pub loop-settings-init : goal.loop-settings-init
-loop-settings-init c = λ chains. none_yet c.args.text.now c.args.settings c.args.room c.args.place c.args.stage _
+loop-settings-init c = (search rules, search rules, λ chains. none_yet c.args.text.now c.args.settings c.args.room c.args.place c.args.stage _)
 
-pub returns-then-not-is_own : goal.returns-then-not-is_own
-returns-then-not-is_own c =
+pub returns-then-not-is_own-clause-walks : goal.returns-then-not-is_own-clause-walks
+returns-then-not-is_own-clause-walks c =
     let a = c.args in
     let small : suc (length a.text.now) < 2 ^ 64 = omega arith in
     let s = c.loop-settings.now in
     let kept = c.put_waiting-kept.result in
     let to = c.to_next_row-now.result in
     λ chains.
-    run_taken a.text.now a.settings a.room a.place a.stage _ small s _ (c.loop-settings.invariant chains) kept _ refl (c.put_waiting-kept.ensures chains) to
-    (goes a.text.now a.settings s kept _ to c.onward-at.ensures c.to_next_row-now.ensures)
+    run_taken a.text.now a.settings a.room a.place a.stage _ small s _ (c.loop-settings.invariant.2 chains) kept _ refl (c.put_waiting-kept.ensures.puts chains) to
+    (goes a.text.now a.settings s kept _ to c.onward.ensures c.to_next_row-now.ensures)
 
 pub loop-settings-smaller : goal.loop-settings-smaller
 loop-settings-smaller c =
@@ -44,8 +45,8 @@ loop-settings-smaller c =
     let s = c.loop-settings.now in
     let kept = c.put_waiting-kept.result in
     let to = c.to_next_row-now.result in
-    less a.text.now a.settings a.room a.place a.stage _ small s _ (c.loop-settings.invariant []) kept _ refl (c.put_waiting-kept.ensures []) to
-    (goes a.text.now a.settings s kept _ to c.onward-at.ensures c.to_next_row-now.ensures)
+    less a.text.now a.settings a.room a.place a.stage _ small s _ (c.loop-settings.invariant.2 []) kept _ refl (c.put_waiting-kept.ensures.puts []) to
+    (goes a.text.now a.settings s kept _ to c.onward.ensures c.to_next_row-now.ensures)
     (own a.stage to _ _ c.run_of-run.ensures c.is_own.ensures c.if-not-is_own.false)
 
 pub loop-settings-preserved : goal.loop-settings-preserved
@@ -55,7 +56,8 @@ loop-settings-preserved c =
     let s = c.loop-settings.now in
     let kept = c.put_waiting-kept.result in
     let to = c.to_next_row-now.result in
+    (search rules, search rules,
     λ chains.
-    one_row a.text.now a.settings a.room a.place a.stage _ small s _ (c.loop-settings.invariant chains) kept _ refl (c.put_waiting-kept.ensures chains) to
-    (goes a.text.now a.settings s kept _ to c.onward-at.ensures c.to_next_row-now.ensures)
-    (own a.stage to _ _ c.run_of-run.ensures c.is_own.ensures c.if-not-is_own.false)
+    one_row a.text.now a.settings a.room a.place a.stage _ small s _ (c.loop-settings.invariant.2 chains) kept _ refl (c.put_waiting-kept.ensures.puts chains) to
+    (goes a.text.now a.settings s kept _ to c.onward.ensures c.to_next_row-now.ensures)
+    (own a.stage to _ _ c.run_of-run.ensures c.is_own.ensures c.if-not-is_own.false))
