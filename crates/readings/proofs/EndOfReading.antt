@@ -78,8 +78,8 @@ left_as l counts (unknown place) = refl
 left_as l counts (known m) = refl
 
 chains_finished : (f : Result (Unit {0}) Unknown) (counts : Counts) → chains_left (finished_by f counts) ≡ finishing.chains_kept f counts
-chains_finished (Err unknown) counts = refl
-chains_finished (Ok u) counts = refl
+chains_finished (Err first) counts = refl
+chains_finished (Ok done) counts = refl
 
 -- by the answer as many chains stay as by what was finished
 pub finished_leaves : (f : Result (Unit {0}) Unknown) (counts : Counts) {answer : Result Counts Refusal} → answer ≡ finished_by f counts → chains_left answer ≡ finishing.chains_kept f counts

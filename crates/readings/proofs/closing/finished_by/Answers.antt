@@ -1,8 +1,0 @@
--- Each case of the answer is a case of the definition.
-use Rattle.readings.proofs.closing.finished_by.Goals as goal
-
-pub returns-in-Err : goal.returns-in-Err
-returns-in-Err c = rw c.in-Err.is
-
-pub returns-in-Ok : goal.returns-in-Ok
-returns-in-Ok c = rw c.in-Ok.is
