@@ -11,10 +11,10 @@ use lib.ListN.{length, get_or}
 use borrow.Author.Tests.{lt-ltb}
 use Rattle.std.specs.Prelude.{Result, Ok, Err}
 use Rattle.std.proofs.Common.{Ordering, zero-le}
-use Rattle.core.specs.declared.cmp.Ordering.TheVariants.{Less, Equal, Greater}
-use Rattle.core.specs.Ordering.{MatchOrdering, is_gt, nat_cmp, ordering_then, ordering_index}
-use Rattle.core.specs.Cmp.{ranks}
-use Rattle.core.specs.List.Sorted.{IsSearchInRange, IsBinarySearchResult, IsNonDecreasingBy}
+use Rattle.std.specs.declared.cmp.Ordering.TheVariants.{Less, Equal, Greater}
+use Rattle.std.specs.Ordering.{MatchOrdering, is_gt, nat_cmp, ordering_then, ordering_index}
+use Rattle.std.specs.Cmp.{ranks}
+use Rattle.std.specs.List.Sorted.{IsSearchInRange, IsBinarySearchResult, IsNonDecreasingBy}
 use Rattle.field_slices.specs.Places.{Ascending, below, Found, FirstBelow}
 use Rattle.field_slices.proofs.OrderLaws.{Order, asymmetric, numbers, by_both, below_first, below_second}
 use Rattle.field_slices.proofs.PlaceLaws.{get_d_any, ascending_at, place_before, place_at}

@@ -12,7 +12,7 @@ use lib.Dec.{leb}
 use lib.ListN.{length, take, drop, get_or, set, take-append-drop, length-append, length-drop, length-set, get_or-append}
 use lib.Seq.{paste, length-paste, take-paste, drop-paste, take-append-le, take-take, take-add, drop-drop, drop_at, length-take-le, set-append_left, take-set-le, drop-set-lt, take-set-lt, take-suc-set, get_or-take, drop-length, drop-set-add, get_or-append-add, get_or-drop}
 use borrow.Author.Tests.{leb-true, leb-false, le-leb, lt-leb, lt-ltb, le-ltb}
-use Rattle.core.specs.List.{copy_within}
+use Rattle.std.specs.List.{copy_within}
 use Rattle.gapped_slices.specs.Gaps.{closed, standing, GapMoved, PutIn}
 use Rattle.field_slices.specs.Insertion.{ins}
 use Rattle.field_slices.specs.Places.{pairs}

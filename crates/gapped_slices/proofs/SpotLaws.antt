@@ -4,7 +4,7 @@ use mathlib.Core.Path.{◌≡◌, sym, ap, ◌∙◌, subst}
 use mathlib.Core.List.{List}
 use mathlib.Core.Bool.{Bool, false≢true}
 use mathlib.Core.Logic.{⊎_elim}
-use Rattle.core.specs.Ordering.{is_gt}
+use Rattle.std.specs.Ordering.{is_gt}
 use Prim.Native.Nat.{ℕ, ◌+◌, ◌≤◌, ◌<◌}
 use native.Mathlib.Nat.{not-suc-le-zero, eq-or-lt_of_le}
 use native.Mathlib.Omega.{arith}
@@ -12,24 +12,42 @@ use lib.ListN.{length, get_or}
 use Rattle.std.proofs.Common.{Result, Ok, Err, Ordering, Less, Greater}
 use Rattle.field_slices.specs.Places.{Ascending, Found}
 use Rattle.field_slices.proofs.RankLaws.{Ranking, less_from, more_from, found_here, found_gap, rises}
-use Rattle.gapped_slices.specs.Ranks.{OfRanks, Rises, Closes, Sought}
+use Rattle.gapped_slices.specs.Ranks.{OfRanks, Rises, FirstLess, Closes, Sought}
 use Rattle.gapped_slices.specs.Spots.{Spotted}
 
 -- ---- looks
 module _ {by : ℕ → Ordering} {n : ℕ} where
-  pub starts : Closes by n 0 n
-  starts = record { before = λ r j h. absurd (not-suc-le-zero h); behind = λ h. absurd (omega arith) }
+  -- the i-th is less, so all up to it are
+  pub less_up : {i : ℕ} → i < n → by i ≡ Less → FirstLess by n (i + 1)
+  less_up {i} h e r j k = ⊎_elim (λ q. ap by q ∙ e) (λ q. r j i q h (λ f. false≢true (ap is_gt (sym e ∙ f)))) (eq-or-lt_of_le (omega arith))
 
-  -- the i-th is less, or greater
+  pub none_less : FirstLess by n 0
+  none_less r j h = absurd (not-suc-le-zero h)
+
+  -- one look narrows it, until none is left
   pub closes_up : {lo hi i : ℕ} → Closes by n lo hi → i < n → by i ≡ Less → Closes by n (i + 1) hi
-  closes_up {lo} {hi} {i} c h e = record { before = λ r j k. ⊎_elim (λ q. ap by q ∙ e) (λ q. r j i q h (λ f. false≢true (ap is_gt (sym e ∙ f)))) (eq-or-lt_of_le (omega arith)); behind = c.behind }
+  closes_up c h e = record { before = less_up h e; behind = c.behind }
 
   pub closes_down : {lo hi i : ℕ} → Closes by n lo hi → by i ≡ Greater → Closes by n lo i
   closes_down {lo} {hi} {i} c e = record { before = c.before; behind = λ h. e }
 
-  -- none is left
   pub closed_in : {lo hi : ℕ} → Closes by n lo hi → hi ≡ lo → lo ≤ n → Sought by n (Err lo)
   closed_in {lo} {hi} c e h = (h, subst (Closes by n lo) e c)
+
+-- what is found among the first k is found among all, where the one behind them is greater
+module _ (by : ℕ → Ordering) {n k : ℕ} (h : k ≤ n) where
+  rises_first : Rises by n → Rises by k
+  rises_first r i j p q = r i j p (omega (arith, q, h))
+
+  pub sought_first : (k < n → by k ≡ Greater) → (r : Result ℕ ℕ) → Sought by k r → Sought by n r
+  sought_first g (Ok i) s = (omega (arith, s.0, h), s.1)
+  sought_first g (Err i) s = (
+    omega (arith, s.0, h),
+    record {
+      before = λ r. s.1.before (rises_first r);
+      behind = λ q. ⊎_elim (λ e. ap by e ∙ g (omega (arith, q, e))) s.1.behind (eq-or-lt_of_le s.0);
+    },
+  )
 
 -- ---- in a list
 module _ {A : Type 0} {less : A → A → Bool} {cmp : A → A → Ordering} (o : Ranking less cmp) (d : A) (l : List A) (x : A) where

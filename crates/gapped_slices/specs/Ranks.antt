@@ -1,7 +1,7 @@
 -- A search among so many entries that asks of each how it stands to the one that is looked for: less, the same, or greater.
 use Rattle.std.specs.Prelude.{◌≡◌, ℕ, ◌<◌, ◌≤◌, Result, MatchResult}
-use Rattle.core.specs.declared.cmp.Ordering.{Ordering}
-use Rattle.core.specs.declared.cmp.Ordering.TheVariants.{Less, Equal, Greater}
+use Rattle.std.specs.declared.cmp.Ordering.{Ordering}
+use Rattle.std.specs.declared.cmp.Ordering.TheVariants.{Less, Equal, Greater}
 
 -- each of n calls answers as `by` says
 abbrev pub Ranks : (ℕ → Ordering → Type 0) → ℕ → (ℕ → Ordering) → Type 0
@@ -16,13 +16,13 @@ module _ (by : ℕ → Ordering) (n : ℕ) where
   abbrev pub Rises : Type 0
   Rises = (i j : ℕ) → i < j → j < n → (by j ≡ Greater → ⊥) → by i ≡ Less
 
-  -- all before the i-th are less
-  abbrev pub LessBelow : ℕ → Type 0
-  LessBelow i = (j : ℕ) → j < i → by j ≡ Less
+  -- where they rise, all before the i-th are less
+  abbrev pub FirstLess : ℕ → Type 0
+  FirstLess i = Rises → (j : ℕ) → j < i → by j ≡ Less
 
-  -- what is looked for is between lo and hi
+  -- what is looked for belongs between lo and hi
   pub record Closes (lo hi : ℕ) : Type 0 where
-    pub before : Rises → LessBelow lo
+    pub before : FirstLess lo
     pub behind : hi < n → by hi ≡ Greater
 
   -- it is found, or belongs where the search ends

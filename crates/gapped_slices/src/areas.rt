@@ -7,7 +7,6 @@ ghost use Rattle.gapped_slices.specs.Spots.{Spotted};
 
 use crate::gaps::{move_gap, put};
 use crate::spots::{is_within, spot_of, spot_of_key};
-use field_slices::smaller;
 
 // A part of some slices, from an index up to another, with a gap of its own: so many entries before it, from the part's start, and so
 // many behind it, up to the part's end.
@@ -23,16 +22,14 @@ pub struct Area {
 fn is_area(size: usize, area: Area) -> bool
     ensures { (result ≡ true → Lies area size) × (result ≡ false → Lies area size → ⊥) }
 {
-    if area.to < area.from {
-        return false;
-    }
-    if size < area.to {
-        return false;
-    }
-    is_within(area.to - area.from, area.front, area.behind)
+    area.from <= area.to
+        && area.to <= size
+        && is_within(area.to - area.from, area.front, area.behind)
 }
 
-// Where the i-th entry of an area stands in its slices. Where there is none, some index.
+// Where the i-th entry of an area stands in its slices. Where there is none, some index: each caller has an entry there, and would have a None
+// to make an index of.
+#[tactic(auto, using(crate::proofs::AreaLaws::stand_before, crate::proofs::AreaLaws::stand_behind))]
 pub fn stand(area: Area, i: usize) -> usize
     ensures { (size : ℕ) → Lies area size → i < many area → result ≡ stand_of area i }
 {
@@ -53,12 +50,8 @@ pub fn move_in<T: Copy>(slice: &mut [T], area: Area, front: usize)
     ensures { MovedIn area front slice.old slice.new }
 {
     if is_area(slice.len(), area) {
-        move_gap(
-            &mut slice[area.from..area.to],
-            area.front,
-            area.behind,
-            front,
-        );
+        let part = &mut slice[area.from..area.to];
+        move_gap(part, area.front, area.behind, front);
     }
 }
 
@@ -67,44 +60,33 @@ pub fn put_in<T: Copy>(slice: &mut [T], area: Area, at: usize, v: T)
     ensures { PutsIn area at v slice.old slice.new }
 {
     if is_area(slice.len(), area) {
-        put(
-            &mut slice[area.from..area.to],
-            area.front,
-            area.behind,
-            at,
-            v,
-        );
+        let part = &mut slice[area.from..area.to];
+        put(part, area.front, area.behind, at, v);
     }
 }
 
 // ---- where an entry belongs among those of an area: Ok of its index where it is there, and Err of the one before which it goes where it is new
 
+#[tactic(auto, using(crate::proofs::AreaLaws::has_entries), unfolding(crate::specs::Areas::entries_in))]
 pub fn spot_in_key(keys: &[u64], area: Area, key: u64) -> Result<usize, usize>
     ensures { let k = keys.now in Lies area (length k) → Spotted ltb (entries_in area k) key result }
 {
-    if is_area(keys.len(), area) {
-        let from = area.from;
-        let to = area.to;
-        return spot_of_key(&keys[from..to], area.front, area.behind, key);
+    if !is_area(keys.len(), area) {
+        return Err(0);
     }
-    Err(0)
+    let keys = &keys[area.from..area.to];
+    spot_of_key(keys, area.front, area.behind, key)
 }
 
+#[tactic(auto, using(crate::proofs::AreaLaws::has_entries), unfolding(crate::specs::Areas::entries_in))]
 pub fn spot_in(keys: &[u64], names: &[u64], area: Area, key: u64, name: u64) -> Result<usize, usize>
     ensures { let k = keys.now in let n = names.now in
         Lies area (length k) → Lies area (length n) → Spotted below (pairs (entries_in area k) (entries_in area n)) (key, name) result }
 {
-    if is_area(smaller(keys.len(), names.len()), area) {
-        let from = area.from;
-        let to = area.to;
-        return spot_of(
-            &keys[from..to],
-            &names[from..to],
-            area.front,
-            area.behind,
-            key,
-            name,
-        );
+    if !is_area(keys.len().min(names.len()), area) {
+        return Err(0);
     }
-    Err(0)
+    let keys = &keys[area.from..area.to];
+    let names = &names[area.from..area.to];
+    spot_of(keys, names, area.front, area.behind, key, name)
 }

@@ -5,6 +5,7 @@ ghost use Rattle.gapped_slices.specs.Gaps.{GapMoved, PutIn};
 use crate::spots::is_within;
 use field_slices::store;
 
+#[tactic(auto, using(crate::proofs::GapLaws::moved_ahead, crate::proofs::GapLaws::moved_back))]
 pub(crate) fn move_gap<T: Copy>(slice: &mut [T], front: usize, behind: usize, to: usize)
     ensures { GapMoved front behind to slice.old slice.new }
 {
@@ -20,6 +21,7 @@ pub(crate) fn move_gap<T: Copy>(slice: &mut [T], front: usize, behind: usize, to
 }
 
 // v put in as a new entry before the one at index `at`.
+#[tactic(auto, using(crate::proofs::GapLaws::put_new))]
 pub(crate) fn put<T: Copy>(slice: &mut [T], front: usize, behind: usize, at: usize, v: T)
     ensures { PutIn front behind at v slice.old slice.new }
 {

@@ -1,10 +1,10 @@
 // Where an entry belongs among those of slices with a gap: the gap is moved there before the entry is put in. The entries next to the
 // gap are looked at first, so that an entry which comes in order costs one look on each side.
 ghost use Rattle.std.specs.Prelude.{◌≡◌, ℕ, ◌+◌, ◌≤◌, ◌<◌, ◌^◌, leb, ltb, length, get_or};
-ghost use Rattle.core.specs.Ordering.{nat_cmp, ordering_then};
+ghost use Rattle.std.specs.Ordering.{nat_cmp, ordering_then};
 ghost use Rattle.field_slices.specs.Places.{pairs, below};
 ghost use Rattle.gapped_slices.specs.Gaps.{closed, standing};
-ghost use Rattle.gapped_slices.specs.Ranks.{OfRanks, Closes, Sought};
+ghost use Rattle.gapped_slices.specs.Ranks.{OfRanks, FirstLess, Sought};
 ghost use Rattle.gapped_slices.specs.Spots.{Spotted};
 
 use std::cmp::Ordering;
@@ -22,17 +22,13 @@ pub(crate) fn is_within(size: usize, front: usize, behind: usize) -> bool
 
 // ---- among so many entries, of each of which `rank` says how it stands to the one that is looked for
 
-// By halves from `from` up to `to`, where those before them are known to be less, and those behind them greater.
-fn by_halves<F: Fn(usize) -> Ordering>(
-    from: usize,
-    to: usize,
-    many: usize,
-    rank: &F,
-) -> Result<usize, usize>
-    requires range { (from ≤ to) × (to ≤ many) }
-    requires called { (i : ℕ) → i < many → F.pre rank.now i }
-    requires closes { OfRanks (F.post rank.now) many (λ by. Closes by many from to) }
-    ensures { OfRanks (F.post rank.now) many (λ by. Sought by many result) }
+// By halves among the entries up to `to`, of which those before `from` are known to be less. The library's binary searches look at the
+// entries of one slice, while these stand on both sides of a gap, and the pairs in two slices.
+fn by_halves<F: Fn(usize) -> Ordering>(from: usize, to: usize, rank: &F) -> Result<usize, usize>
+    requires range { from ≤ to }
+    requires called { (i : ℕ) → i < to → F.pre rank.now i }
+    requires less { OfRanks (F.post rank.now) to (λ by. FirstLess by to from) }
+    ensures { OfRanks (F.post rank.now) to (λ by. Sought by to result) }
 {
     let mut lo = from;
     let mut hi = to;
@@ -47,12 +43,10 @@ fn by_halves<F: Fn(usize) -> Ordering>(
     Err(lo)
 }
 
-// From the last one before the gap back, and by halves among those that this leaves.
-fn back_from<F: Fn(usize) -> Ordering>(front: usize, many: usize, rank: &F) -> Result<usize, usize>
-    requires range { front ≤ many }
-    requires called { (i : ℕ) → i < many → F.pre rank.now i }
-    requires closes { OfRanks (F.post rank.now) many (λ by. Closes by many 0 front) }
-    ensures { OfRanks (F.post rank.now) many (λ by. Sought by many result) }
+// Among those before the gap, from the last one back, and by halves among those that this leaves.
+fn back_from<F: Fn(usize) -> Ordering>(front: usize, rank: &F) -> Result<usize, usize>
+    requires called { (i : ℕ) → i < front → F.pre rank.now i }
+    ensures { OfRanks (F.post rank.now) front (λ by. Sought by front result) }
 {
     let stop = front - STEPS.min(front);
     for i in (stop..front).rev() {
@@ -62,14 +56,14 @@ fn back_from<F: Fn(usize) -> Ordering>(front: usize, many: usize, rank: &F) -> R
             Ordering::Greater => {}
         }
     }
-    by_halves(0, stop, many, rank)
+    by_halves(0, stop, rank)
 }
 
-// From the first one behind the gap on, and by halves among those that this leaves.
+// From the first one behind the gap on, and by halves among those that this leaves, where those before the gap are known to be less.
 fn on_from<F: Fn(usize) -> Ordering>(front: usize, many: usize, rank: &F) -> Result<usize, usize>
     requires range { front ≤ many }
     requires called { (i : ℕ) → i < many → F.pre rank.now i }
-    requires closes { OfRanks (F.post rank.now) many (λ by. Closes by many front many) }
+    requires less { OfRanks (F.post rank.now) many (λ by. FirstLess by many front) }
     ensures { OfRanks (F.post rank.now) many (λ by. Sought by many result) }
 {
     let stop = front + STEPS.min(many - front);
@@ -80,7 +74,7 @@ fn on_from<F: Fn(usize) -> Ordering>(front: usize, many: usize, rank: &F) -> Res
             Ordering::Greater => return Err(i),
         }
     }
-    by_halves(stop, many, many, rank)
+    by_halves(stop, many, rank)
 }
 
 // The last one before the gap says on which side of it to look.
@@ -95,7 +89,7 @@ fn spot_by<F: Fn(usize) -> Ordering>(front: usize, many: usize, rank: F) -> Resu
     match rank(front - 1) {
         Ordering::Less => on_from(front, many, &rank),
         Ordering::Equal => Ok(front - 1),
-        Ordering::Greater => back_from(front - 1, many, &rank),
+        Ordering::Greater => back_from(front - 1, &rank),
     }
 }
 

@@ -1,6 +1,6 @@
 -- The first n entries are as many as are counted; the last of them decides, and else the search among all of them.
 use Rattle.std.proofs.Common.{◌≡◌, ◌-◌, ◌<◌, ℕ, List, length, take, get_or, min, sym, ap, ◌∙◌, arith}
-use Rattle.core.specs.Ordering.{nat_cmp}
+use Rattle.std.specs.Ordering.{nat_cmp}
 use Rattle.field_slices.proofs.OrderLaws.{numbers}
 use lib.Seq.{get_or-take}
 use lib.ListN.{length-take}

@@ -4,7 +4,7 @@ use Rattle.gapped_slices.specs.Ranks.{OfRanks, Closes}
 use Rattle.gapped_slices.proofs.spots.by_halves.Given as goal
 
 abbrev pub invariant-loop-lo : goal.invariant-loop-lo
-invariant-loop-lo g l = ((l.lo ≤ l.hi) × (l.hi ≤ l.many)) × OfRanks (goal.F-post g l.rank) l.many (λ by. Closes by l.many l.lo l.hi)
+invariant-loop-lo g l = ((l.lo ≤ l.hi) × (l.hi ≤ l.to)) × OfRanks (goal.F-post g l.rank) l.to (λ by. Closes by l.to l.lo l.hi)
 
 abbrev pub decreases-loop-lo : goal.decreases-loop-lo
 decreases-loop-lo g l = l.hi - l.lo
