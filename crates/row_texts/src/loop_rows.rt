@@ -25,7 +25,7 @@ pub struct AtomRow {
     pub entity: u64,
     // Its residue's place among the polymer residues of its chain, from 1; not asked for where the residue is none.
     pub number: u64,
-    // 0 for none.
+    // 0 for none, as in the keys of lent records.
     pub insertion_code: u8,
     pub position: Point3,
     // Moved up by 2 ^ 31.
@@ -104,6 +104,7 @@ fn put_author(out: &mut [u8], at: usize, row: AtomRow) -> usize
 }
 
 // Every coordinate has a text where the position is near enough, as in every well-formed model; else only the buffer's length is promised.
+// Where no byte of the buffer is left, the row is only measured.
 pub fn put_atom_row(out: &mut [u8], at: usize, row: AtomRow) -> usize
     ensures { (is_near row.position ≡ true → Emits out at (atom_text row) result) × (length out.new ≡ length out.old) }
 {

@@ -1,4 +1,4 @@
-// A packed name put byte by byte, straight from its number.
+// A packed name put byte by byte, straight from its number: it is walked as a number, with no index.
 ghost use Rattle.std.specs.Prelude.{◌≡◌, length, IfSome};
 ghost use Rattle.names.specs.Packing.{unpacked};
 ghost use Rattle.row_texts.specs.Emitted.{Emits};
