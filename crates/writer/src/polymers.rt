@@ -18,12 +18,7 @@ use row_texts::{PolymerRow, put_polymer_row, put_word};
 fn has_polymers(codes: &[u8], n: usize) -> bool
     ensures { result ≡ any is_polymer (list_from (entries codes.now) 0 n) }
 {
-    for i in 0..n {
-        if is_polymer(byte_at(codes, i)) {
-            return true;
-        }
-    }
-    false
+    (0..n).any(|i| is_polymer(byte_at(codes, i)))
 }
 
 // The row of a residue; none where it is of no polymer.

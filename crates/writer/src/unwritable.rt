@@ -12,7 +12,7 @@ use field_slices::entry_at;
 use model::{Atom, Records, Room, chain_part, code_part};
 use names::{after_first, first_byte};
 
-// Whether a byte stands in a name: each turn passes the first byte of what is left.
+// Whether a byte stands in a name: each turn passes the first byte of what is left. A packed name is walked as a number, with no index.
 fn holds(name: u64, b: u8) -> bool
     ensures { result ≡ has b (unpacked name) }
 {
