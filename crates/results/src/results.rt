@@ -17,10 +17,7 @@ pub fn status_of(answer: Result<Served, Refusal>) -> u32
 {
     match answer {
         Ok(_) => 0,
-        Err(why) => {
-            let reason = why.reason;
-            reason.number() as u32
-        }
+        Err(why) => u32::from(why.reason.number()),
     }
 }
 
@@ -38,10 +35,7 @@ fn numbers_of(answer: Result<Served, Refusal>) -> [usize; 7]
             served.counts.outdone,
             served.counts.assumed,
         ],
-        Err(why) => {
-            let reason = why.reason;
-            [why.line, reason.detail(), 0, 0, 0, 0, 0]
-        }
+        Err(why) => [why.line, why.reason.detail(), 0, 0, 0, 0, 0],
     }
 }
 
