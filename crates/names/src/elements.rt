@@ -269,6 +269,7 @@ static SYMBOLS: [u64; 119] = [
 ];
 
 // The symbol of an element, packed; `X` for 0 and for a number that no element has.
+#[tactic(auto, using(crate::proofs::SymbolTable::symbol_at), unfolding(crate::specs::Packing::packed_in))]
 pub fn symbol_of(element: u8) -> u64
     ensures { result ≡ symbol_of element }
 {

@@ -20,6 +20,7 @@ pub fn pack(name: &[u8]) -> u64
 }
 
 // The first byte of a packed name; 0 where it has none.
+#[tactic(auto, using(crate::proofs::PackingTurns::unpacked_first))]
 pub fn first_byte(name: u64) -> u8
     ensures { result ≡ first (unpacked name) }
 {
@@ -27,6 +28,7 @@ pub fn first_byte(name: u64) -> u8
 }
 
 // The name without its first byte.
+#[tactic(auto, using(crate::proofs::PackingTurns::unpacked_after))]
 pub fn after_first(name: u64) -> u64
     ensures { unpacked result ≡ drop 1 (unpacked name) }
 {

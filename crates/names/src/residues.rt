@@ -213,6 +213,7 @@ impl ResidueCategory {
     }
 
     // The name that the category is shown by, zeros after it.
+    #[tactic(auto, unfolding(crate::specs::Packing::cell_of))]
     pub fn name(self) -> [u8; 16]
         ensures { result ≡ cell_of 16 (category_name self) }
     {
@@ -223,6 +224,7 @@ impl ResidueCategory {
         }
     }
 
+    #[tactic(auto, unfolding(crate::specs::Categories::residue_categories, crate::specs::Categories::categories, crate::specs::Categories::category_of))]
     pub fn of_code(code: u8) -> Option<ResidueCategory>
         ensures { result ≡ category_of code }
     {
@@ -240,6 +242,7 @@ impl ResiduePosition {
     }
 
     // The name that the position is shown by, zeros after it.
+    #[tactic(auto, unfolding(crate::specs::Packing::cell_of))]
     pub fn name(self) -> [u8; 16]
         ensures { result ≡ cell_of 16 (position_name self) }
     {
@@ -253,6 +256,7 @@ impl ResiduePosition {
         }
     }
 
+    #[tactic(auto, unfolding(crate::specs::Positions::residue_positions, crate::specs::Positions::positions, crate::specs::Positions::position_of))]
     pub fn of_code(code: u8) -> Option<ResiduePosition>
         ensures { result ≡ position_of code }
     {

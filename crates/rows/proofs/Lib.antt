@@ -1,9 +1,6 @@
 pub mod AuthBeforeLabel
-pub mod CaseLaws
 pub mod CellLaws
-pub mod ColumnLaws
 pub mod ColumnsByItem
-pub mod DeclaredLaws
 pub mod LaterColumnCounts
 pub mod ReachLaws
 pub mod RowCases

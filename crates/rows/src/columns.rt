@@ -25,9 +25,8 @@ pub fn with_column(columns: Columns, item: usize, column: u8) -> Columns
     let mut places = columns.places;
     if item < 15 {
         places[item] = column;
-        return Columns { places };
     }
-    columns
+    Columns { places }
 }
 
 pub(crate) fn is_absent(column: u8) -> bool
@@ -41,8 +40,7 @@ impl Columns {
         requires { item < 15 }
         ensures { result ≡ column_of self item }
     {
-        let places = self.places;
-        places[item]
+        self.places[item]
     }
 
     // The auth column where its header exists, whatever a row holds there; else the label column.
@@ -52,9 +50,10 @@ impl Columns {
     {
         let column = self.column(auth);
         if is_absent(column) {
-            return self.column(label);
+            self.column(label)
+        } else {
+            column
         }
-        column
     }
 
     pub(crate) fn group(self) -> u8

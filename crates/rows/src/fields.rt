@@ -127,6 +127,7 @@ impl<'a> Tokens<'a> {
     }
 }
 
+#[tactic(auto, unfolding(crate::specs::Fields::hetatm_at))]
 fn hetatm_at(tokens: Tokens, column: u8) -> bool
     ensures { (line : List ℕ) → InTokens line tokens.entry → result ≡ hetatm_at line column }
 {
@@ -136,6 +137,7 @@ fn hetatm_at(tokens: Tokens, column: u8) -> bool
     }
 }
 
+#[tactic(auto, unfolding(crate::specs::Fields::insertion_code_at))]
 fn insertion_code_at(tokens: Tokens, column: u8) -> u8
     ensures { (line : List ℕ) → InTokens line tokens.entry → result ≡ insertion_code_at line column }
 {
@@ -145,12 +147,14 @@ fn insertion_code_at(tokens: Tokens, column: u8) -> u8
     }
 }
 
+#[tactic(auto, unfolding(crate::specs::Fields::occupancy_at))]
 fn occupancy_at(tokens: Tokens, column: u8) -> Measure
     ensures { (line : List ℕ) → InTokens line tokens.entry → result ≡ occupancy_at line column }
 {
     measure_of(tokens.declared(column)?)
 }
 
+#[tactic(auto, unfolding(crate::specs::Fields::element_at))]
 fn element_at(tokens: Tokens, column: u8) -> u8
     ensures { (line : List ℕ) → InTokens line tokens.entry → result ≡ element_at line column }
 {
@@ -160,6 +164,7 @@ fn element_at(tokens: Tokens, column: u8) -> u8
     }
 }
 
+#[tactic(auto, unfolding(crate::specs::Fields::fields_of))]
 fn fields_in(columns: Columns, tokens: Tokens) -> Fields
     ensures { (line : List ℕ) → InTokens line tokens.entry → result ≡ fields_of columns line }
 {
@@ -195,21 +200,12 @@ fn fields_by(columns: Columns, line: &[u8], cell: &mut [u8], places: &mut [usize
     )
 }
 
-fn fields_of_short(columns: Columns, line: &[u8]) -> Fields
-    requires { length line.now ≤ 128 }
+fn fields_within<const BYTES: usize, const PLACES: usize>(columns: Columns, line: &[u8]) -> Fields
+    requires { (length line.now ≤ BYTES) × (BYTES ≤ longest) × (min 256 BYTES < PLACES) × (PLACES ≤ 257) }
     ensures { result ≡ fields_of columns line.now }
 {
-    let mut cell = [0u8; SHORT];
-    let mut places = [0usize; 129];
-    fields_by(columns, line, &mut cell, &mut places)
-}
-
-fn fields_of_long(columns: Columns, line: &[u8]) -> Fields
-    requires { length line.now ≤ longest }
-    ensures { result ≡ fields_of columns line.now }
-{
-    let mut cell = [0u8; LONGEST];
-    let mut places = [0usize; 257];
+    let mut cell = [0u8; BYTES];
+    let mut places = [0usize; PLACES];
     fields_by(columns, line, &mut cell, &mut places)
 }
 
@@ -218,10 +214,10 @@ pub fn fields_of(columns: Columns, line: &[u8]) -> Fields
     ensures { result ≡ fields_of columns (take longest line.now) }
 {
     if line.len() <= SHORT {
-        return fields_of_short(columns, line);
+        return fields_within::<SHORT, 129>(columns, line);
     }
     if line.len() <= LONGEST {
-        return fields_of_long(columns, line);
+        return fields_within::<LONGEST, 257>(columns, line);
     }
-    fields_of_long(columns, &line[0..LONGEST])
+    fields_within::<LONGEST, 257>(columns, &line[0..LONGEST])
 }

@@ -40,6 +40,7 @@ fn first_absent(columns: &[u8]) -> Option<usize>
 }
 
 // The first column that a row must have and the loop does not.
+#[tactic(auto, using(crate::proofs::ReachLaws::absent_within), unfolding(crate::specs::Reach::missing_column))]
 fn missing_column(columns: Columns) -> Option<Column>
     ensures { result ≡ missing_column columns }
 {
@@ -64,6 +65,7 @@ fn is_short(columns: Columns, n: usize) -> bool
 }
 
 // Whether a row of n tokens has all the columns that it must have, and reaches them and those that it must reach where they are declared.
+#[tactic(auto, unfolding(crate::specs::Reach::reach_of))]
 pub(crate) fn reach_of(columns: Columns, n: usize) -> Result<(), ReachError>
     ensures { result ≡ reach_of columns n }
 {

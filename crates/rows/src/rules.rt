@@ -48,6 +48,7 @@ fn too_long(name: Name) -> bool
 }
 
 // Step 7.
+#[tactic(auto, unfolding(crate::specs::Rules::named))]
 fn named(f: Fields, position: Point3, occupancy: Occupancy) -> Result<Option<Site>, Reason>
     ensures { result ≡ named f position occupancy.value occupancy.assumed }
 {
@@ -122,6 +123,7 @@ fn located(x: Number, y: Number, z: Number) -> Result<Point3, Reason>
 }
 
 // What becomes of a row: the first of steps 1 to 7 that refuses it says why; one that lacks a coordinate is skipped; any other is kept as a site.
+#[tactic(auto, unfolding(crate::specs::Rules::row_of, crate::specs::Rules::reached, crate::specs::Rules::located, crate::specs::Rules::occupied))]
 pub fn row_of(settings: Settings, f: Fields) -> Result<Option<Site>, Reason>
     ensures { result ≡ row_of settings f }
 {
