@@ -7,7 +7,9 @@ ghost use Rattle.gapped_slices.specs.Areas.{Lies, entries_in};
 ghost use Rattle.gapped_slices.specs.Spots.{Spotted};
 ghost use Rattle.building.specs.Kinds.{atoms_now, atom_entry_at, IsAtom, AtomsIn, AtomsFirst, AtomsLong, AtomsSame, PutsAtom, ReplacesAtom};
 ghost use Rattle.building.specs.Stores.{Empties, MakesRoom, PutsNew, Gathered};
-ghost use Rattle.std.specs.Prelude.{◌≡◌, length};
+ghost use Rattle.std.specs.Prelude.{◌≡◌, length, get_or};
+ghost use Rattle.std.specs.Float.Ieee.{lt};
+ghost use Rattle.std.specs.Float.{nan};
 
 use crate::stores::{
     Store, Way, emptied, entries_of, in_main, in_pocket, place_of, way_of, widened, with_entry,
@@ -128,13 +130,19 @@ pub(crate) fn put_new_atom(
     }
 }
 
+// Whether the occupancy at this index is less than another; not where there is none.
+fn is_less_at(atoms: &AtomsMut<'_>, at: usize, occupancy: f64) -> bool
+    ensures { result ≡ lt (get_or atoms.now.occupancies.now at nan) occupancy }
+{
+    entry_at(atoms.occupancies, at, f64::NAN) < occupancy
+}
+
 // The atom that stands at this index of the slices is replaced where its occupancy is strictly less.
 pub(crate) fn replace_atom(atoms: &mut AtomsMut<'_>, at: usize, atom: AtomEntry)
     ensures same { SameAtoms atoms.old atoms.new }
     ensures replaces { ReplacesAtom at atom (atoms_now atoms.old) (atoms_now atoms.new) }
 {
-    let old = entry_at(atoms.occupancies, at, f64::NAN);
-    if !(old < atom.occupancy) {
+    if !is_less_at(atoms, at, atom.occupancy) {
         return;
     }
     store(atoms.elements, at, atom.element);

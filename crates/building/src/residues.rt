@@ -1,8 +1,10 @@
 // The residues in their slices, one to a field, in the two areas of a store. While rows are read the HETATM marks stand where the categories will.
 ghost use Rattle.model.specs.Fold.{Residue};
+ghost use Rattle.gapped_slices.specs.Areas.{Lies, entries_in};
+ghost use Rattle.gapped_slices.specs.Spots.{Spotted};
 ghost use Rattle.building.specs.Kinds.{residues_now, residue_entry_at, IsResidue, KeepsResidues, ResiduesIn, ResiduesFirst, ResiduesLong, ResiduesSame, PutsResidue};
 ghost use Rattle.building.specs.Stores.{Empties, MakesRoom, PutsNew, Gathered};
-ghost use Rattle.std.specs.Prelude.{◌≡◌};
+ghost use Rattle.std.specs.Prelude.{◌≡◌, ltb, length};
 
 use crate::stores::{
     Store, Way, emptied, entries_of, in_main, in_pocket, place_of, way_of, widened, with_entry,
@@ -40,6 +42,13 @@ fn residue_at(residues: &ResiduesMut<'_>, at: usize) -> ResidueEntry
     }
 }
 
+// Where a residue is in an area, or as an error where it goes.
+pub(crate) fn residue_spot(residues: &ResiduesMut<'_>, area: Area, key: u64) -> Result<usize, usize>
+    ensures { let k = residues.now.keys.now in Lies area (length k) → Spotted ltb (entries_in area k) key result }
+{
+    spot_in_key(residues.keys, area, key)
+}
+
 // Those of the pocket go over into main in their order, in one sweep of its gap.
 fn empty_pocket(residues: &mut ResiduesMut<'_>, store: Store) -> Store
     ensures same { KeepsResidues residues.old residues.new }
@@ -52,7 +61,7 @@ fn empty_pocket(residues: &mut ResiduesMut<'_>, store: Store) -> Store
     for k in 0..many {
         let from = stand(pocket, k);
         let residue = residue_at(residues, from);
-        let at = place_of(spot_in_key(residues.keys, main, residue.key));
+        let at = place_of(residue_spot(residues, main, residue.key));
         put_residue(residues, main, at, residue);
         main = with_entry(main, at);
     }
@@ -91,13 +100,13 @@ pub(crate) fn put_new_residue(
             in_main(store, at)
         }
         Way::Pocket => {
-            let at = place_of(spot_in_key(residues.keys, store.pocket, residue.key));
+            let at = place_of(residue_spot(residues, store.pocket, residue.key));
             put_residue(residues, store.pocket, at, residue);
             in_pocket(store, at)
         }
         Way::Emptied => {
             let store = make_room(residues, room, store);
-            let at = place_of(spot_in_key(residues.keys, store.main, residue.key));
+            let at = place_of(residue_spot(residues, store.main, residue.key));
             put_residue(residues, store.main, at, residue);
             in_main(store, at)
         }

@@ -6,8 +6,9 @@ ghost use Rattle.gapped_slices.specs.Areas.{Lies, entries_in};
 ghost use Rattle.building.specs.Stores.{Seeks};
 
 use crate::atoms::atom_spot;
+use crate::residues::residue_spot;
 use crate::stores::{Store, entries_of};
-use gapped_slices::{spot_in_key, stand};
+use gapped_slices::stand;
 use model::{AtomsMut, ResiduesMut};
 
 pub(crate) fn seek_residue(
@@ -20,13 +21,13 @@ pub(crate) fn seek_residue(
 {
     let main = store.main;
     let pocket = store.pocket;
-    match spot_in_key(residues.keys, main, key) {
+    match residue_spot(residues, main, key) {
         Ok(i) => Ok(stand(main, i)),
         Err(at) => {
             if entries_of(pocket) == 0 {
                 return Err(at);
             }
-            match spot_in_key(residues.keys, pocket, key) {
+            match residue_spot(residues, pocket, key) {
                 Ok(i) => Ok(stand(pocket, i)),
                 Err(_) => Err(at),
             }

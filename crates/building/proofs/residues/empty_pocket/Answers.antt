@@ -13,11 +13,16 @@ use Rattle.building.specs.Stores.{emptied_area, Apart}
 use Rattle.building.proofs.ResidueStores.{no_residues, residues_put_same}
 use Rattle.building.proofs.ResiduesEmptied.{still_long, residue_over}
 use Rattle.building.proofs.EmptyingLaws.{Emptying, empties_first, emptied_apart, none_in_pocket}
+use Rattle.building.proofs.SameSlices.{residues_kept}
 use Rattle.building.proofs.StoreLaws.{lies_pocket}
 use Rattle.building.proofs.residues.empty_pocket.Goals as goal
 
 pub loop-k-init : goal.loop-k-init
-loop-k-init c = ?
+loop-k-init c = (
+  ((refl, refl, refl, refl, refl), refl, refl),
+  record { keys = refl; names = refl; marks = refl },
+  λ room small long m h all. empties_first (ResiduesIn (residues_now c.args.residues.now)) room c.args.store m h,
+)
 
 pub loop-k-preserved : goal.loop-k-preserved
 loop-k-preserved c =
@@ -25,9 +30,49 @@ loop-k-preserved c =
     let here : ResidueSlices = residues_now c.loop-k.residues in
     let after : ResidueSlices = residues_now c.put_residue.new.residues in
     let puts = c.put_residue.ensures.puts in
-    let so_far = c.loop-k.invariant.1 in
-    let taken = c.loop-k-test.true in
-    let at = c.place_of-at in ?
+    let put = residues_put_same here after c.loop-k.main c.place_of-at.result c.residue_at-residue.result puts in
+    let so_far = c.loop-k.invariant.1 in (
+      residues_kept c.args.residues.now c.loop-k.residues c.put_residue.new.residues c.loop-k.invariant.0 c.put_residue.ensures.same,
+      record {
+        keys = put.keys ∙ so_far.keys;
+        names = put.names ∙ so_far.names;
+        marks = put.marks ∙ so_far.marks;
+      },
+      λ room small long m h all.
+          let low : c.loop-k.k < many c.args.store.pocket = omega (arith, c.loop-k-test.true, all) in
+          let lies = lies_pocket room c.args.store h.lays room (omega arith) in
+          let read = c.residue_at-residue.ensures ∙ ap (residue_entry_at here) (c.stand-from.ensures room lies low) in
+          subst (λ (n : ℕ). Emptying (ResiduesIn after) c.args.store h.second m n c.with_entry-main.result) (sym (add-one c.loop-k.k))
+          (residue_over entry here after room small (still_long entry here room so_far long) c.args.store m h c.loop-k.k low c.loop-k.main
+          (c.loop-k.invariant.2 room small long m h all) c.residue_at-residue.result read c.residue_spot.result c.residue_spot.ensures
+          c.place_of-at.result c.place_of-at.ensures c.with_entry-main.result c.with_entry-main.ensures puts),
+    )
 
 pub returns : goal.returns
-returns c = ?
+returns c =
+    let entry : ResidueSlices = residues_now c.args.residues.now in
+    let here : ResidueSlices = residues_now c.loop-k.residues in
+    let store = c.args.store in
+    let after-all : Store = record { main = c.loop-k.main; pocket = c.emptied.result; credit = store.credit } in
+    let nothing = no_residues here (emptied_area store.pocket) refl in
+    let small : (room : ℕ) → ResiduesLong entry room → room < 2 ^ 64 = λ room long. omega (arith, long.keys) in
+    let all : (room : ℕ) (m : Map Residue) → ResiduesLong entry room → Apart (ResiduesIn entry) room store m → c.entries_of-many.result ≡ many store.pocket
+    = λ room m long h. c.entries_of-many.ensures (omega (arith, h.lays.pocket_fits, h.lays.inside, small room long)) in
+    let over : (room : ℕ) (m : Map Residue) → ResiduesLong entry room → (h : Apart (ResiduesIn entry) room store m) → Emptying (ResiduesIn here) store h.second m c.loop-k.k c.loop-k.main
+    = λ room m long h. c.loop-k.invariant.2 room (small room long) long m h (all room m long h) in
+    let none_left : (room : ℕ) (m : Map Residue) → ResiduesLong entry room → (h : Apart (ResiduesIn entry) room store m) → length h.second ≤ c.loop-k.k
+    = λ room m long h. omega (arith, h.pocket.many, all room m long h, c.loop-k-test.false) in
+    let no_more : (room : ℕ) (m : Map Residue) → ResiduesLong entry room → Apart (ResiduesIn entry) room store m → c.loop-k.k ≤ many store.pocket
+    = λ room m long h. omega (arith, all room m long h, c.loop-k.auto.k-end) in
+    record {
+      same = c.loop-k.invariant.0;
+      empties = record {
+        same = c.loop-k.invariant.1;
+        apart = λ room m long h.
+            emptied_apart (ResiduesIn entry) (ResiduesIn here) room store m h c.loop-k.k (none_left room m long h) (no_more room m long h) c.loop-k.main (over room m long h)
+            nothing after-all refl c.emptied.ensures;
+        none = λ room m long h.
+            none_in_pocket (ResiduesIn entry) (ResiduesIn here) room store m h c.loop-k.k (none_left room m long h) (no_more room m long h) c.loop-k.main (over room m long h)
+            nothing after-all refl c.emptied.ensures;
+      };
+    }
