@@ -25,7 +25,7 @@ unfolding class_of
 class_again name lone = go (resolve_of name) refl
   where
     go : (r : Option Resolved) → resolve_of name ≡ r → class_by (resolve_of (class_by r name lone).name) (class_by r name lone).name lone ≡ class_by r name lone
-    go (Some to) e = ap (λ (r : Option Resolved). class_by r to.name lone) (twice name to e)
+    go (Some to) e = ap (λ (r : Option Resolved). class_by r to.name lone) (twice name to.name to.residue e)
     go None e = ap (λ (r : Option Resolved). class_by r name lone) e
 
 -- the canonical names are names
@@ -47,7 +47,7 @@ unfolding class_of
 class_is_named name lone h = go (resolve_of name) refl
   where
     go : (r : Option Resolved) → resolve_of name ≡ r → is_name (class_by r name lone).name ≡ true
-    go (Some to) e = named_passes is_name to.name canonical canonical_names (leads_to_canonical name to e)
+    go (Some to) e = named_passes is_name to.name canonical canonical_names (leads_to_canonical name to.name to.residue e)
     go None e = h
 
 -- ---- positions
