@@ -23,7 +23,8 @@ use Rattle.reader.specs.Reading.{read_of}
 use Rattle.writer.specs.Writing as writer
 use Rattle.writer.specs.Writing.{Writing, written, writing_of, write_of, Wrote}
 use Rattle.service.specs.Serving.{by_writing, by_reading, serve_of, answer_of, left_in, written_to, Serves, written_answer, left_written, WritesOut}
-use Rattle.service.proofs.WrittenAsRead.{well_counted, written_as_read}
+use Rattle.service.proofs.HeldAgain.{held_again}
+use Rattle.service.proofs.WrittenAsRead.{within, well_counted, written_as_read}
 
 -- ---- the reading: what is read is well formed where it stands
 pub read_well : (settings : Settings) (l : Lent) (text : List ℕ) (counts : Counts) (after : Lent) → let reading = read_of settings (room_of l) text in
@@ -91,17 +92,19 @@ module _ (settings : Settings) (l : Lent) (text out : List ℕ) where
 
   -- and one that is: what is written is what was read
   pub serve_read : (counts : Counts) (between after : Lent) (answer : Result Served Refusal) (bytes : List ℕ)
-      → ◌≡◌ {A = Result Counts Refusal} (Ok counts) (readings.answer_of reading) → between ≡ readings.left_by l reading → ((m : Model) → holding between m ≡ holding l m)
+      → ◌≡◌ {A = Result Counts Refusal} (Ok counts) (readings.answer_of reading) → between ≡ readings.left_by l reading
       → WritesOut between counts out answer after bytes → Serves settings l text out answer after bytes
-  serve_read counts between after answer bytes a f alike writes = go reading refl a f
+  serve_read counts between after answer bytes a f writes = go reading refl a f
     where
       answered_as : (m : Model) (w : Writing) → written_answer counts w ≡ answer_of (by_writing m counts w)
       answered_as m (written text) = refl
       answered_as m (writer.refused why) = refl
 
-      left_as : (m : Model) → between ≡ holding l m → (w : Writing) → left_written between w ≡ left_in l (by_writing m counts w)
-      left_as m f (written text) = f
-      left_as m f (writer.refused why) = alike empty_model
+      left_as : (m : Model) → reading ≡ read m counts → between ≡ holding l m → (w : Writing) → left_written between w ≡ left_in l (by_writing m counts w)
+      left_as m e f (written text) = f
+      left_as m e f (writer.refused why) =
+          let room = within settings l text m counts e in
+          ap (λ (x : Lent). holding x empty_model) f ∙ held_again l m room.0 room.1 room.2 empty_model
 
       written_as : (m : Model) (w : Writing) → writer.left_by out w ≡ written_to out (by_writing m counts w)
       written_as m (written text) = refl
@@ -115,6 +118,6 @@ module _ (settings : Settings) (l : Lent) (text out : List ℕ) where
           let size = length out in
           serves_as (read m counts) e
           (writes.answered ∙ ap (written_answer counts) w ∙ answered_as m (writing_of size m))
-          (writes.left ∙ ap (left_written between) w ∙ left_as m f (writing_of size m))
+          (writes.left ∙ ap (left_written between) w ∙ left_as m e f (writing_of size m))
           (writes.written ∙ ap (writer.left_by out) w ∙ written_as m (writing_of size m))
       go (readings.refused why) e a f = let z : ◌≡◌ {A = ℕ} 0 1 = cc in absurd (omega arith)

@@ -18,7 +18,10 @@ const BAD_RESULT: u32 = 26;
 fn renewed(result_size: usize, size: usize) -> usize
     ensures { result ≡ renewed_in result_size size }
 {
-    if result_size == 28 { size } else { 0 }
+    match result_size {
+        28 => size,
+        _ => 0,
+    }
 }
 
 // The call by names, in the first so many. The names come as a slice, of which a part is lent on.
