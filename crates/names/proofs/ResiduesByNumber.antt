@@ -47,9 +47,9 @@ is_neither_last n h = go (dec_lt n 32)
     go (no k) = ap kind_in (get_or-eq_default residues None (past k))
 
 -- the kind that is found by a residue's own number is the residue's kind
-pub kind_found : (r : StandardResidue) (n : ℕ) (p q : Polymer) → n ≡ residue_code r → p ≡ polymer_of n → p ≡ q → kind_of r ≡ q
+pub kind_by_code : (r : StandardResidue) → kind_of r ≡ polymer_of (residue_code r)
 unfolding polymer_of
-kind_found r n p q e f g = sym (ap kind_in (residue_again r)) ∙ sym (ap polymer_of e) ∙ sym f ∙ g
+kind_by_code r = sym (ap kind_in (residue_again r))
 
 -- a kind that is not the one is the one or the other of the others
 pub not_protein : (p : Polymer) → (p ≡ Protein → ⊥) → protein p ≡ false

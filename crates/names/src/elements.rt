@@ -6,6 +6,7 @@ ghost use Rattle.names.specs.Packing.{unpacked};
 use crate::packing::{name_len, pack};
 
 // The element of a symbol, spelled as in `element_named`; of any other text, 0.
+#[tactic(auto, using(crate::proofs::SymbolsByName::element_none, crate::proofs::PackingIsOneToOne::whole))]
 pub fn element_of(symbol: &[u8]) -> u8
     ensures { result ≡ element_of symbol.now }
 {

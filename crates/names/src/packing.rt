@@ -36,6 +36,7 @@ pub fn after_first(name: u64) -> u64
 }
 
 // How many bytes a packed name has.
+#[tactic(auto, using(crate::proofs::PackingTurns::unpacked_none, crate::proofs::PackingTurns::unpacked_short, crate::proofs::PackingTurns::one_less))]
 pub(crate) fn name_len(name: u64) -> usize
     ensures { result ≡ length (unpacked name) }
 {
@@ -49,6 +50,7 @@ pub(crate) fn name_len(name: u64) -> usize
 }
 
 // Puts the bytes of a packed name into the cell, zeros after them, and says how many they are.
+#[tactic(auto, using(crate::proofs::CellTurns::filling_first, crate::proofs::CellTurns::filling_turn, crate::proofs::CellTurns::filling_last))]
 pub fn unpack(name: u64, cell: &mut [u8]) -> usize
     ensures { (result ≡ length (unpacked name)) × (cell.new ≡ cell_of (length cell.old) (unpacked name)) }
 {

@@ -178,12 +178,14 @@ impl StandardResidue {
         SHOWN[i]
     }
 
+    #[tactic(auto, using(crate::proofs::ResiduesByNumber::kind_by_code, crate::proofs::ResiduesByNumber::not_protein))]
     pub fn is_protein(self) -> bool
         ensures { result ≡ is_protein self }
     {
         matches!(Polymer::of_code(self.code()), Polymer::Protein)
     }
 
+    #[tactic(auto, using(crate::proofs::ResiduesByNumber::kind_by_code, crate::proofs::ResiduesByNumber::not_nucleic))]
     pub fn is_nucleic(self) -> bool
         ensures { result ≡ is_nucleic self }
     {
@@ -193,6 +195,7 @@ impl StandardResidue {
 
 impl Polymer {
     // What the residue of a number is a part of: the amino acids come first, then the bases.
+    #[tactic(auto, using(crate::proofs::ResiduesByNumber::is_protein_lem, crate::proofs::ResiduesByNumber::is_nucleic_lem, crate::proofs::ResiduesByNumber::is_neither_first, crate::proofs::ResiduesByNumber::is_neither_last))]
     pub fn of_code(code: u8) -> Polymer
         ensures { result ≡ polymer_of code }
     {

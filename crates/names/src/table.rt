@@ -22,6 +22,7 @@ fn place_in_order(name: u64) -> Option<usize>
 }
 
 // What a name leads to; `None` for a name that the table does not have.
+#[tactic(auto, using(crate::proofs::RowsInOrder::row_there, crate::proofs::RowsInOrder::resolved_at, crate::proofs::RowsInOrder::resolved_nowhere))]
 pub fn resolve(name: u64) -> Option<Resolved>
     ensures { result ≡ resolve_of name }
 {

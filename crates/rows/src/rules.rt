@@ -88,16 +88,14 @@ fn unread(unreadable: Unreadable) -> Occupancy
 fn occupied(settings: Settings, occupancy: Measure) -> Result<Occupancy, Reason>
     ensures { result ≡ occupancy_of settings occupancy }
 {
-    let Some(n) = occupancy else {
-        return Ok(ASSUMED_ONE);
-    };
-    match n {
-        Ok(value) => Ok(Occupancy {
+    match occupancy {
+        None => Ok(ASSUMED_ONE),
+        Some(Err(NumberError::OutsideGrammar)) => Ok(unread(settings.occupancy)),
+        Some(Err(NumberError::BeyondReach)) => Err(Reason::BeyondReach(Quantity::Occupancy)),
+        Some(Ok(value)) => Ok(Occupancy {
             value,
             assumed: false,
         }),
-        Err(NumberError::OutsideGrammar) => Ok(unread(settings.occupancy)),
-        Err(NumberError::BeyondReach) => Err(Reason::BeyondReach(Quantity::Occupancy)),
     }
 }
 
