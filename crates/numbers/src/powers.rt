@@ -1,7 +1,7 @@
 // Powers of ten that a 64-bit number and a double both hold exactly.
 ghost use Rattle.std.specs.Prelude.{◌≡◌, ◌≤◌, ◌^◌};
 
-const POWERS: [u64; 16] = [
+static POWERS: [u64; 16] = [
     1,
     10,
     100,
