@@ -1,5 +1,7 @@
 // A byte and a word put at a place of a lent buffer. The place after it is told also where it does not fit. Each function answers the next
 // place: a buffer and a place in one struct would say the same twice in each clause, as it was and as it is.
+#![tactic(auto, using(crate::proofs::EmittedLaws::no_room), unfolding(crate::specs::Emitted::place_after))]
+
 ghost use Rattle.std.specs.Prelude.{◌≡◌, [], ◌∷◌, ◌+◌, ◌^◌, ◌<◌};
 ghost use Rattle.row_texts.specs.Emitted.{Emits, place_after};
 

@@ -1,4 +1,6 @@
 // The text of each field of a row put at a place of a lent buffer.
+#![tactic(auto, using(crate::proofs::EmittedLaws::then), unfolding(crate::specs::Fields::sequence_text, crate::specs::Fields::code_text, crate::specs::Fields::group_text, crate::specs::Fields::number_text))]
+
 ghost use Rattle.std.specs.Prelude.{◌≡◌, true};
 ghost use Rattle.numbers.specs.Rounding.{printable};
 ghost use Rattle.row_texts.specs.Emitted.{Emits};

@@ -1,5 +1,7 @@
 // How many bytes the text of each field of a row has, told without a buffer: digits are only counted, which takes less time than to write
 // them.
+#![tactic(auto, using(crate::proofs::FieldsAreShort::short_fields), unfolding(crate::specs::Fields::sequence_text, crate::specs::Fields::group_text, crate::specs::Fields::number_text))]
+
 ghost use Rattle.std.specs.Prelude.{◌≡◌, true, ◌+◌, ◌≤◌, length};
 ghost use Rattle.model.specs.WellFormed.{is_near};
 ghost use Rattle.numbers.specs.Rounding.{printable};
