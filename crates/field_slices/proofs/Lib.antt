@@ -5,4 +5,3 @@ pub mod OrderLaws
 pub mod PairLaws
 pub mod PlaceLaws
 pub mod RankLaws
-pub mod SearchLaws

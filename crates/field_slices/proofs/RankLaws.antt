@@ -1,16 +1,17 @@
 -- What `cmp` answers of two entries says which of them comes first, so what Rust's binary search answers is a place.
 use mathlib.Core.Path.{◌≡◌, refl, sym, ap, ◌∙◌, subst}
 use mathlib.Core.Logic.{◌⊎◌, inl, inr, ⊎_elim}
-use mathlib.Core.List.{List}
+use mathlib.Core.List.{List, [], ◌∷◌}
 use mathlib.Core.Bool.{Bool, true, false, false≢true}
-use Prim.Native.Nat.{ℕ, ◌≤◌, ◌<◌}
+use Prim.Native.Nat.{ℕ, zero, suc, ◌-◌, ◌≤◌, ◌<◌}
 use native.Mathlib.Nat.{le_refl, eq-or-lt_of_le}
 use native.Mathlib.Omega.{arith}
 use lib.Dec.{ltb}
 use lib.ListN.{length, get_or}
 use borrow.Author.Tests.{lt-ltb}
 use Rattle.std.specs.Prelude.{Result, Ok, Err}
-use Rattle.std.proofs.Common.{Ordering, zero-le}
+use Rattle.std.proofs.Common.{Ordering, zero-le, Some, slice_get, is_some}
+use Rattle.std.specs.Option.{unwrap_or}
 use Rattle.std.specs.declared.cmp.Ordering.TheVariants.{Less, Equal, Greater}
 use Rattle.std.specs.Ordering.{MatchOrdering, is_gt, nat_cmp, ordering_then, ordering_index}
 use Rattle.std.specs.Cmp.{ranks}
@@ -110,3 +111,21 @@ module _ {A : Type 0} {less : A → A → Bool} {cmp : A → A → Ordering} (o 
     pub found_search : (d : A) (r : Result ℕ ℕ) → IsSearchInRange r (length l) → IsBinarySearchResult (λ y. cmp y x) l r → Found less l x r
     found_search d (Ok i) h e = found_here d h (e d)
     found_search d (Err i) h e = found_gap d h (λ s. (λ j k. less_from (get_or l j d) x ((e (rising s)).0 j d zero-le k), λ k. more_from (get_or l i d) x ((e (rising s)).1 i d (le_refl i) k)))
+
+    -- what a look at the last entry y says: x is behind it, or is it
+    got : (k : List A) (i : ℕ) (y d : A) → Some y ≡ slice_get k i → (i < length k) × (get_or k i d ≡ y)
+    got [] i y d e = absurd (false≢true (sym (ap is_some e)))
+    got (z ∷ k) zero y d e = (omega arith, ap (λ r. unwrap_or r d) (sym e))
+    got (z ∷ k) (suc i) y d e = let h = got k i y d e in (omega (arith, h.0), h.1)
+
+    pub found_behind : (y : A) → Some y ≡ slice_get l (length l - 1) → less y x ≡ true → Found less l x (Err (length l))
+    found_behind y e h = found_gap y (le_refl (length l)) (λ s. (λ j k. below s j k (got l (length l - 1) y y e), λ k. absurd (omega arith)))
+      where
+        below : Ascending less l → (j : ℕ) → j < length l → (length l - 1 < length l) × (get_or l (length l - 1) y ≡ y) → less (get_or l j y) x ≡ true
+        below s j k g =
+            ⊎_elim (λ (q : j ≡ length l - 1). ap (λ n. less (get_or l n y) x) q ∙ ap (λ z. less z x) g.1 ∙ h)
+            (λ (q : j < length l - 1). o.order.transitive (get_or l j y) y x (subst (λ z. less (get_or l j y) z ≡ true) g.1 (ascending_at o.order y l s j (length l - 1) q g.0)) h)
+            (eq-or-lt_of_le (omega arith))
+
+    pub found_last : (y : A) → Some y ≡ slice_get l (length l - 1) → cmp y x ≡ Equal → Found less l x (Ok (length l - 1))
+    found_last y e h = let g = got l (length l - 1) y y e in found_here y g.0 (ap (λ z. cmp z x) g.1 ∙ h)

@@ -49,17 +49,6 @@ pub record Found {A : Type 0} (less : A → A → Bool) (l : List A) (c : A) (r 
   pub inside : Inside l c r
   pub place : Ascending less l → r ≡ place_in less c l
 
--- ---- a search under way, with d for an entry that is not there
-
-module _ {A : Type 0} (less : A → A → Bool) (d : A) where
-  -- each of the first i entries is below c
-  abbrev pub FirstBelow : A → List A → ℕ → Type 0
-  FirstBelow c l i = (j : ℕ) → j < i → less (get_or l j d) c ≡ true
-
-  -- the place of c among the n entries of l is from lo to hi
-  pub record Narrowed (c : A) (l : List A) (n lo hi : ℕ) : Type 0 where
-    pub count : length l ≡ n
-    pub low : lo ≤ hi
-    pub high : hi ≤ n
-    pub before : Ascending less l → FirstBelow c l lo
-    pub behind : hi < n → less c (get_or l hi d) ≡ true
+-- each of the first i entries is below c, with d for an entry that is not there
+abbrev pub FirstBelow : {A : Type 0} → (A → A → Bool) → A → A → List A → ℕ → Type 0
+FirstBelow less d c l i = (j : ℕ) → j < i → less (get_or l j d) c ≡ true

@@ -3,8 +3,6 @@
 ghost use Rattle.std.specs.Prelude.{◌≡◌, min, ltb, take};
 ghost use Rattle.field_slices.specs.Places.{Found};
 
-use std::cmp::Ordering;
-
 pub fn smaller(m: usize, n: usize) -> usize
     ensures { result ≡ min m n }
 {
@@ -16,13 +14,10 @@ pub fn smaller(m: usize, n: usize) -> usize
 pub fn place_of_key(keys: &[u64], n: usize, key: u64) -> Result<usize, usize>
     ensures { Found ltb (take n keys.now) key result }
 {
-    let count = smaller(n, keys.len());
-    if count == 0 {
-        return Err(0);
-    }
-    match keys[count - 1].cmp(&key) {
-        Ordering::Less => Err(count),
-        Ordering::Equal => Ok(count - 1),
-        Ordering::Greater => keys[..count].binary_search(&key),
+    let first = &keys[..n.min(keys.len())];
+    match first.last() {
+        Some(last) if *last < key => Err(first.len()),
+        Some(last) if *last == key => Ok(first.len() - 1),
+        _ => first.binary_search(&key),
     }
 }

@@ -1,40 +1,33 @@
 -- The first n entries are as many as are counted; the last of them decides, and else the search among all of them.
-use Rattle.std.proofs.Common.{◌≡◌, ◌-◌, ◌<◌, ℕ, List, length, take, get_or, min, sym, ap, ◌∙◌, arith}
-use Rattle.std.specs.Ordering.{nat_cmp}
-use Rattle.field_slices.proofs.OrderLaws.{numbers}
-use lib.Seq.{get_or-take}
-use lib.ListN.{length-take}
+use Rattle.std.proofs.Common.{◌≡◌, ℕ, List, Result, length, take, min, sym, ap, ◌∙◌, subst, ltb, lt-ltb}
+use Rattle.std.specs.Cmp.{nat_cmp_is}
+use Rattle.std.specs.declared.cmp.Ordering.TheVariants.{Equal}
+use Rattle.field_slices.specs.Places.{Found}
 use Rattle.field_slices.proofs.PairLaws.{first_counted}
-use Rattle.field_slices.proofs.RankLaws.{number_ranking, less_from, found_here, found_search}
-use Rattle.field_slices.proofs.SearchLaws.{found_in, found_none, found_behind}
+use Rattle.field_slices.proofs.RankLaws.{number_ranking, found_behind, found_last, found_search}
 use Rattle.field_slices.proofs.places.place_of_key.Goals as goal
 
--- what is looked at is as many entries as are counted, and the last of them
-counted : (n m : ℕ) (keys : List ℕ) → m ≡ min n (length keys) → length (take n keys) ≡ m
-counted n m keys e = length-take n keys ∙ sym e
+-- what is looked at is the first n entries
+in_first : (n m key : ℕ) (keys : List ℕ) (r : Result ℕ ℕ) → m ≡ min n (length keys) → Found ltb (take m keys) key r → Found ltb (take n keys) key r
+in_first n m key keys r e = subst (λ (l : List ℕ). Found ltb l key r) (ap (λ k. take k keys) e ∙ first_counted n keys)
 
-last : (n m : ℕ) (keys : List ℕ) → m ≡ min n (length keys) → 0 < m → get_or (take n keys) (m - 1) 0 ≡ get_or keys (m - 1) 0
-last n m keys e h = get_or-take n keys (m - 1) 0 (omega arith)
-
-pub returns-then-count-eq0 : goal.returns-then-count-eq0
-returns-then-count-eq0 c = found_none numbers 0 (counted c.args.n c.smaller-count.result c.args.keys.now c.smaller-count.ensures) c.if-count-eq0.true
-
-pub returns-in-Less : goal.returns-in-Less
-returns-in-Less c =
+pub returns-in-Some : goal.returns-in-Some
+returns-in-Some c =
     let a = c.args in
-    let n = c.smaller-count.result in
-    let e = c.smaller-count.ensures in
-    found_behind numbers 0 (counted a.n n a.keys.now e) (omega arith) (last a.n n a.keys.now e (omega arith)) (less_from number_ranking (get_or a.keys.now (n - 1) 0) a.key (sym c.cmp.ensures ∙ c.in-Less.is))
+    let m = c.min.result in
+    let last = c.in-Some.last.now in
+    in_first a.n m a.key a.keys.now _ c.min.ensures (found_behind number_ranking (take m a.keys.now) a.key last c.in-Some.ensures.value (lt-ltb last a.key c.if-last-key.true))
 
-pub returns-in-Equal : goal.returns-in-Equal
-returns-in-Equal c =
+pub returns-in-Some-2 : goal.returns-in-Some-2
+returns-in-Some-2 c =
     let a = c.args in
-    let n = c.smaller-count.result in
-    let e = c.smaller-count.ensures in
-    found_here number_ranking (take a.n a.keys.now) a.key 0 (omega (arith, counted a.n n a.keys.now e)) (ap (λ k. nat_cmp k a.key) (last a.n n a.keys.now e (omega arith)) ∙ sym c.cmp.ensures ∙ c.in-Equal.is)
+    let m = c.min.result in
+    let last = c.in-Some.last.now in
+    in_first a.n m a.key a.keys.now _ c.min.ensures (found_last number_ranking (take m a.keys.now) a.key last c.in-Some.ensures.value (sym (nat_cmp_is last a.key Equal c.if-last-key-2.true)))
 
-pub returns-in-Greater : goal.returns-in-Greater
-returns-in-Greater c =
+pub returns-in_default : goal.returns-in_default
+returns-in_default c =
     let a = c.args in
+    let m = c.min.result in
     let found = c.binary_search in
-    found_in (ap (λ (m : ℕ). take m a.keys.now) c.smaller-count.ensures ∙ first_counted _ a.keys.now) (found_search number_ranking _ a.key 0 found.result found.ensures.bound found.ensures.position)
+    in_first a.n m a.key a.keys.now found.result c.min.ensures (found_search number_ranking (take m a.keys.now) a.key 0 found.result found.ensures.bound found.ensures.position)
