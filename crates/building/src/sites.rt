@@ -4,7 +4,7 @@ ghost use Rattle.model.specs.Fold.{first, greater};
 ghost use Rattle.model.specs.Keys.{atom_place};
 ghost use Rattle.model.specs.Lent.{coordinates};
 ghost use Rattle.model.specs.LentNow.{SameAtoms};
-ghost use Rattle.building.specs.Holds.{records_now, sizes_of};
+ghost use Rattle.building.specs.Holds.{records_now, sizes_of, SameLengths};
 ghost use Rattle.building.specs.Kinds.{residues_now, KeepsResidues, ResiduesIn, ResiduesLong, ResiduesSame, atoms_now, AtomsIn, AtomsLong, AtomsSame};
 ghost use Rattle.building.specs.Sites.{SoughtFor, lack_of, residue_entry, atom_entry, one_more, counts_with, with_skipped, Did};
 ghost use Rattle.building.specs.Slices.{ChainFound};
@@ -209,6 +209,7 @@ pub fn put_site(
 ) -> Result<Held, RecordKind>
     ensures same { KeepsResidues residues.old residues.new }
     ensures same_atoms { SameAtoms atoms.old atoms.new }
+    ensures lengths { (chains : List ℕ) → SameLengths (records_now chains residues.old atoms.old) (records_now chains residues.new atoms.new) }
     ensures did { (chains : List ℕ) → ChainFound (take held.counts.chains chains) site.chain place →
         Did (records_now chains residues.old atoms.old) room held site result (records_now (set chains place site.chain) residues.new atoms.new) }
 {

@@ -20,6 +20,17 @@ returns-in-Some c =
     record {
       same = ((refl, refl, refl, refl, refl), refl, refl);
       same_atoms = (refl, refl, refl, refl, refl);
+      lengths = λ chains. record {
+        chains = refl;
+        residue_keys = refl;
+        residue_names = refl;
+        residue_marks = refl;
+        atom_keys = refl;
+        atom_names = refl;
+        elements = refl;
+        positions = refl;
+        occupancies = refl;
+      };
       did = λ chains found. (
         record {
           chains = length-set chains a.place a.site.chain;
@@ -48,6 +59,17 @@ returns c =
     record {
       same = residues.ensures.same;
       same_atoms = atoms.ensures.same;
+      lengths = λ chains. record {
+        chains = refl;
+        residue_keys = residues.ensures.puts.same.keys;
+        residue_names = residues.ensures.puts.same.names;
+        residue_marks = residues.ensures.puts.same.marks;
+        atom_keys = atoms.ensures.puts.same.keys;
+        atom_names = atoms.ensures.puts.same.names;
+        elements = atoms.ensures.puts.same.elements;
+        positions = atoms.ensures.puts.same.positions;
+        occupancies = atoms.ensures.puts.same.occupancies;
+      };
       did = λ chains found.
           let r : Records = records_now chains a.residues.now a.atoms.now in
           let left : Records = records_now (set chains a.place a.site.chain) residues.new.residues atoms.new.atoms in (

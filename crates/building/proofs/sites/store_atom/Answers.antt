@@ -39,11 +39,11 @@ returns-in-Err c =
     let after : AtomSlices = atoms_now put.new.atoms in
     let k = atom_place a.places.key a.site.atom in
     let puts =
-        subst
-        (λ (e : AtomEntry).
-            (v : Atom) → IsAtom e v
-            → PutsNew (AtomsSame entry after) (AtomsLong entry) (AtomsIn entry) (AtomsIn after) a.room a.store c.in-Err.at (atom_place e.key e.name) v put.result)
-        c.atom_entry-atom.ensures put.ensures.puts (atom_of a.site) (record { element = refl; position = refl; occupancy = refl }) in
+    subst
+    (λ (e : AtomEntry).
+    (v : Atom) → IsAtom e v
+    → PutsNew (AtomsSame entry after) (AtomsLong entry) (AtomsIn entry) (AtomsIn after) a.room a.store c.in-Err.at (atom_place e.key e.name) v put.result)
+    c.atom_entry-atom.ensures put.ensures.puts (atom_of a.site) (record { element = refl; position = refl; occupancy = refl }) in
     record {
       same = put.ensures.same;
       puts = record {

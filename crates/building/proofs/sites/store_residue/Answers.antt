@@ -30,11 +30,11 @@ returns-in-Err c =
     let entry : ResidueSlices = residues_now a.residues.now in
     let after : ResidueSlices = residues_now put.new.residues in
     let puts =
-        subst
-        (λ (e : ResidueEntry).
-            (v : Residue) → IsResidue e v
-            → PutsNew (ResiduesSame entry after) (ResiduesLong entry) (ResiduesIn entry) (ResiduesIn after) a.room a.store c.in-Err.at e.key v put.result)
-        c.residue_entry.ensures put.ensures.puts (residue_of a.site) (record { name = refl; mark = refl }) in
+    subst
+    (λ (e : ResidueEntry).
+    (v : Residue) → IsResidue e v
+    → PutsNew (ResiduesSame entry after) (ResiduesLong entry) (ResiduesIn entry) (ResiduesIn after) a.room a.store c.in-Err.at e.key v put.result)
+    c.residue_entry.ensures put.ensures.puts (residue_of a.site) (record { name = refl; mark = refl }) in
     record {
       same = put.ensures.same;
       puts = record {
