@@ -4,7 +4,7 @@ ghost use Rattle.std.specs.Prelude.{◌≡◌, List, ℕ, length, set};
 ghost use Rattle.model.specs.LentNow.{SameAtoms};
 ghost use Rattle.building.specs.Holds.{records_now};
 ghost use Rattle.building.specs.Kinds.{KeepsResidues};
-ghost use Rattle.mmcif.specs.Stages.{onward_to, number_after, chain_in, run_of, is_waiting, is_own, between_rows, first_stage, GoesOnTo, PutsWaiting, TakesRun, Walks};
+ghost use Rattle.mmcif.specs.Stages.{onward_to, number_after, chain_in, run_of, is_own, between_rows, first_stage, GoesOnTo, PutsWaiting, TakesRun, Walks};
 
 use crate::plans::plan_of;
 use acts::{Act, Standing, keep_site, pass_act};
@@ -46,22 +46,6 @@ fn number_after(number: usize) -> usize
     ensures { result ≡ number_after number }
 {
     number.saturating_add(1)
-}
-
-pub fn waits(stage: Stage) -> bool
-    ensures { result ≡ is_waiting stage.waiting }
-{
-    stage.waiting.is_some()
-}
-
-// The chain of the row that waits.
-pub fn chain_in(stage: Stage) -> u64
-    ensures { result ≡ chain_in stage.waiting }
-{
-    match stage.waiting {
-        None => 0,
-        Some(row) => row.site.chain,
-    }
 }
 
 // The chain of the run that begins with the row that waits.

@@ -55,12 +55,14 @@ loop-stage-smaller c =
 
 pub loop-stage-preserved : goal.loop-stage-preserved
 loop-stage-preserved c =
-    let l = c.take_run-stage.new in
-    (search rules, search rules,
-    λ target u.
-    one_run (c.loop-stage.invariant.2 target u)
-    c.in-Some.row c.in-Some.is c.chain_place-place.result c.chain_place-place.ensures c.store.new.slice c.store.ensures c.take_run-stage.result
-    (λ chains. records_now chains l.residues l.atoms) (c.take_run-stage.ensures.takes _))
+    let l = c.take_run-stage.new in (
+      search rules,
+      search rules,
+      λ target u.
+          one_run (c.loop-stage.invariant.2 target u)
+          c.in-Some.row c.in-Some.is c.chain_place-place.result c.chain_place-place.ensures c.store.new.slice c.store.ensures c.take_run-stage.result
+          (λ chains. records_now chains l.residues l.atoms) (c.take_run-stage.ensures.takes _),
+    )
 
 pub returns-clause-passes : goal.returns-clause-passes
 returns-clause-passes c =

@@ -55,9 +55,11 @@ loop-settings-preserved c =
     let small : suc (length a.text.now) < 2 ^ 64 = omega arith in
     let s = c.loop-settings.now in
     let kept = c.put_waiting-kept.result in
-    let to = c.to_next_row-now.result in
-    (search rules, search rules,
-    λ chains.
-    one_row a.text.now a.settings a.room a.place a.stage _ small s _ (c.loop-settings.invariant.2 chains) kept _ refl (c.put_waiting-kept.ensures.puts chains) to
-    (goes a.text.now a.settings s kept _ to c.onward.ensures c.to_next_row-now.ensures)
-    (own a.stage to _ _ c.run_of-run.ensures c.is_own.ensures c.if-not-is_own.false))
+    let to = c.to_next_row-now.result in (
+      search rules,
+      search rules,
+      λ chains.
+          one_row a.text.now a.settings a.room a.place a.stage _ small s _ (c.loop-settings.invariant.2 chains) kept _ refl (c.put_waiting-kept.ensures.puts chains) to
+          (goes a.text.now a.settings s kept _ to c.onward.ensures c.to_next_row-now.ensures)
+          (own a.stage to _ _ c.run_of-run.ensures c.is_own.ensures c.if-not-is_own.false),
+    )
