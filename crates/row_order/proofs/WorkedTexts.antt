@@ -7,6 +7,7 @@ use mathlib.Core.List.{List, [], ◌∷◌, ◌++◌, map}
 use Prim.Native.Nat.{ℕ, ◌+◌, ◌^◌, ◌≤◌}
 use native.Mathlib.Bridge.{le_by_compare, IsLe}
 use lib.ListN.{length}
+use Rattle.std.specs.Prelude.{Option, Some, None, Result, Ok, Err}
 use Rattle.ascii.specs.Bytes.{bytes}
 use Rattle.ascii.specs.Digits.{digit_run, all_digits, number_from, capped}
 use Rattle.ascii.specs.Letters.{eq_ignore_case}
@@ -28,8 +29,8 @@ use Rattle.rows.specs.Fields.{hetatm_at, insertion_code_at, occupancy_at, elemen
 use Rattle.rows.specs.Reach.{first_absent, misses, reach_of}
 use Rattle.rows.specs.Rules.{named, occupied, located, reached, row_of}
 use Rattle.rows.specs.declared.columns.Columns.{Columns}
-use Rattle.rows.specs.declared.rules.Row.{Row}
-use Rattle.rows.specs.declared.rules.Row.TheVariants.{Refused, Skipped, Kept}
+use Rattle.rows.specs.declared.rules.Site.{Site}
+use Rattle.refusals.specs.declared.reasons.Reason.{Reason}
 use Rattle.rows.specs.Settings.{assuming}
 use Rattle.line_states.specs.Heads.{start_heads}
 use Rattle.line_states.specs.States.{moved_by_token, moved_by}
@@ -122,10 +123,10 @@ opened = refl
 unfoldable pub columns : Columns
 columns = (heads_after start_heads headers).columns
 
-abbrev pub chain_and_sequence : Row → List ℕ
-chain_and_sequence (Refused why) = []
-chain_and_sequence Skipped = []
-chain_and_sequence (Kept s) = s.chain ∷ s.sequence ∷ []
+abbrev pub chain_and_sequence : Result (Option Site) Reason → List ℕ
+chain_and_sequence (Err why) = []
+chain_and_sequence (Ok None) = []
+chain_and_sequence (Ok (Some s)) = s.chain ∷ s.sequence ∷ []
 
 -- group, then atom, residue, chain and sequence by their auth columns, no insertion code, x, y, z, occupancy and symbol
 abbrev pub found : Columns
