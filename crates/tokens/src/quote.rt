@@ -21,13 +21,11 @@ fn all_plain(s: &[u8]) -> bool
 fn quote_for(name: &[u8]) -> u8
     ensures { result ≡ quote_for name.now }
 {
-    if !has_byte(name, b'\'') {
-        return b'\'';
+    if has_byte(name, b'\'') && !has_byte(name, b'"') {
+        b'"'
+    } else {
+        b'\''
     }
-    if has_byte(name, b'"') {
-        return b'\'';
-    }
-    b'"'
 }
 
 fn put_in_quotes(name: &[u8], q: u8, out: &mut [u8], at: usize) -> usize
@@ -35,8 +33,8 @@ fn put_in_quotes(name: &[u8], q: u8, out: &mut [u8], at: usize) -> usize
     ensures { Stored out.old at (in_quotes q name.now) out.new result }
 {
     out[at] = q;
-    let _ = put_text(name, out, at + 1);
     let end = at + 1 + name.len();
+    out[at + 1..end].copy_from_slice(name);
     out[end] = q;
     end + 1
 }

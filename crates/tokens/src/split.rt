@@ -72,7 +72,8 @@ fn rest_of(cell: &[u8], start: usize) -> Part
     Part { start, end }
 }
 
-// Where the k-th of n tokens stands in the cell that they were copied to; an empty part where there is none.
+// Where the k-th of n tokens stands in the cell that they were copied to; an empty part where there is none, which no token
+// is: a row asks what stands in a column, and an absent one reads as an empty one.
 pub fn part_of(cell: &[u8], places: &[usize], n: usize, k: usize) -> Part
     ensures { IsPart cell.now (token_in cell.now places.now n k) result }
 {

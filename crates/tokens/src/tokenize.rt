@@ -7,7 +7,8 @@ use crate::kinds::{Kind, kind_of};
 use crate::store::store;
 use crate::trim::content_of;
 
-// What a byte does: it goes on the token, ends it, or opens a quote or closes it, which leaves 0 as the open quote.
+// What a byte does: it goes on the token, ends it, or opens a quote or closes it. The open quote is 0 where none is, as in
+// the specs' `scan`: an `Option` would say no more, since 0 is no quote.
 #[derive(Clone, Copy)]
 pub enum Act {
     Add,
