@@ -22,7 +22,9 @@ use Rattle.model.specs.declared.room.Room.{Room}
 use Rattle.model.specs.WellFormed.{well_formed, counts_fit, well_formed_in}
 use Rattle.model.proofs.ListLaws.{left_of, right_of}
 use Rattle.readings.specs.Reading.{largest, read, answer_of, left_by}
-use Rattle.readings.specs.declared.answers.Answer.{Answer}
+use Rattle.std.specs.Prelude.{Result, Ok}
+use Rattle.refusals.specs.declared.reasons.Refusal.{Refusal}
+use Rattle.building.specs.declared.sites.Counts.{Counts}
 use Rattle.reader.specs.Reading.{read_of, ReadBy}
 use Rattle.row_texts.specs.Fields.{coordinate_text}
 use Rattle.writer.specs.Text.{text_of}
@@ -92,6 +94,6 @@ module _ (settings : Settings) (l k : Lent) (counts : Room) (size : ℕ) (text :
       ∙ return_trip (model_in l counts) w.formed w.writable settings (room_of k) (as_many l k counts fit) (subst (λ (t : List ℕ). length t ≤ largest) (sym w.same) short)
 
   -- what `read` then answers and leaves
-  pub read_leaves_it : (r : Answer) (after : Lent) → ReadBy settings k text r after
-      → (r ≡ Answer.Read (returned_counts (model_in l counts))) × (after ≡ holding k (returned (model_in l counts)))
+  pub read_leaves_it : (r : Result Counts Refusal) (after : Lent) → ReadBy settings k text r after
+      → (r ≡ Ok (returned_counts (model_in l counts))) × (after ≡ holding k (returned (model_in l counts)))
   read_leaves_it r after h = (h.0 ∙ ap answer_of written_is_read, h.1 ∙ ap (left_by k) written_is_read)
