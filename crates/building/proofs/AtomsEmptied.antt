@@ -7,9 +7,8 @@ use lib.ListN.{length, get_or}
 use Rattle.std.specs.Prelude.{Result, Err}
 use Rattle.field_slices.specs.Clearing.{zero_float}
 use Rattle.field_slices.specs.Insertion.{ins}
-use Rattle.field_slices.specs.Places.{pairs, below, place_in}
-use Rattle.gapped_slices.specs.Areas.{many, Lies, one_more_at, stand_of, entries_in}
-use Rattle.gapped_slices.specs.Spots.{Spotted}
+use Rattle.field_slices.specs.Places.{place_in}
+use Rattle.gapped_slices.specs.Areas.{many, one_more_at, stand_of, entries_in}
 use Rattle.gapped_slices.specs.declared.areas.Area.{Area}
 use Rattle.model.specs.Finished.{key_part, name_part}
 use Rattle.model.specs.Fold.{Atom}
@@ -19,7 +18,7 @@ use Rattle.model.specs.Map.{Entry, Map, find}
 use Rattle.model.proofs.KeysGiveBack.{whole_place}
 use Rattle.building.specs.declared.stores.Store.{Store}
 use Rattle.building.specs.declared.atoms.AtomEntry.{AtomEntry}
-use Rattle.building.specs.Kinds.{AtomSlices, atom_entry_at, IsAtom, AtomsIn, AtomsLong, PutsAtom}
+use Rattle.building.specs.Kinds.{AtomSlices, atom_entry_at, IsAtom, AtomsIn, AtomsLong, AtomSpotted, PutsAtom}
 use Rattle.building.specs.Stores.{place_of, Apart}
 use Rattle.building.proofs.AtomPlaces.{name_small}
 use Rattle.building.proofs.AtomStores.{atom_entered, atom_elsewhere, atom_looked_new}
@@ -64,7 +63,7 @@ module _ (first r after : AtomSlices) (room : ℕ) (small : room < 2 ^ 64) (long
     small_name = subst (λ (n : ℕ). n < 2 ^ 64) (sym own_name) (name_small e.key)
 
     -- ---- and put in
-    module _ (spot : Result ℕ ℕ) (look : Lies a (length r.keys) → Lies a (length r.names) → Spotted below (pairs (entries_in a r.keys) (entries_in a r.names)) (x.key, x.name) spot)
+    module _ (spot : Result ℕ ℕ) (look : AtomSpotted r a x.key x.name spot)
         (at : ℕ) (at_is : at ≡ place_of spot) (a' : Area) (grown : suc (many a) < 2 ^ 64 → at ≤ many a → a' ≡ one_more_at a at) (puts : PutsAtom a at x r after) where
       place : Err at ≡ place_in ltb e.key (keys g.so_far)
       place =

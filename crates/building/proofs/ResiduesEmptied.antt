@@ -9,7 +9,7 @@ use lib.ListN.{length, get_or}
 use Rattle.std.specs.Prelude.{Result, Err}
 use Rattle.field_slices.specs.Insertion.{ins}
 use Rattle.field_slices.specs.Places.{place_in}
-use Rattle.gapped_slices.specs.Areas.{many, Lies, one_more_at, stand_of, entries_in}
+use Rattle.gapped_slices.specs.Areas.{many, one_more_at, stand_of, entries_in}
 use Rattle.gapped_slices.specs.Spots.{Spotted}
 use Rattle.gapped_slices.specs.declared.areas.Area.{Area}
 use Rattle.model.specs.Fold.{Residue}
@@ -17,7 +17,7 @@ use Rattle.model.specs.Lists.{count}
 use Rattle.model.specs.Map.{Entry, Map}
 use Rattle.building.specs.declared.stores.Store.{Store}
 use Rattle.building.specs.declared.residues.ResidueEntry.{ResidueEntry}
-use Rattle.building.specs.Kinds.{ResidueSlices, residue_entry_at, IsResidue, ResiduesIn, ResiduesLong, ResiduesSame, PutsResidue}
+use Rattle.building.specs.Kinds.{ResidueSlices, residue_entry_at, IsResidue, ResiduesIn, ResiduesLong, ResiduesSame, ResidueSpotted, PutsResidue}
 use Rattle.building.specs.Stores.{place_of, Apart}
 use Rattle.building.proofs.EmptyingLaws.{Emptying, taken, not_in_main, lies_so_far, goes_over}
 use Rattle.building.proofs.MapPlaces.{keys, looked_new}
@@ -58,7 +58,7 @@ module _ (first r after : ResidueSlices) (room : ℕ) (small : room < 2 ^ 64) (l
     }
 
     -- ---- and put in
-    module _ (spot : Result ℕ ℕ) (look : Lies a (length r.keys) → Spotted ltb (entries_in a r.keys) x.key spot) (at : ℕ) (at_is : at ≡ place_of spot)
+    module _ (spot : Result ℕ ℕ) (look : ResidueSpotted r a x.key spot) (at : ℕ) (at_is : at ≡ place_of spot)
         (a' : Area) (grown : suc (many a) < 2 ^ 64 → at ≤ many a → a' ≡ one_more_at a at) (puts : PutsResidue a at x r after) where
       place : Err at ≡ place_in ltb e.key (keys g.so_far)
       place =

@@ -126,7 +126,7 @@ lengths_after r after place name e residues atoms = record {
 }
 
 module _ (r : Records) (room : Room) (h : Held) (s : Site) (p : Places) (place : ℕ) (found : ChainFound (take h.counts.chains r.chains) s.chain place)
-    (sought : SoughtFor r.residue_keys r.atom_keys r.atom_names h place s p)
+    (sought : SoughtFor (residues_in r) (atoms_in r) h place s p)
     (st : State) (a : HoldsApart r room h st) (w : Proper s) where
   abbrev chains : List ℕ
   chains = with_chain s.chain st.chains

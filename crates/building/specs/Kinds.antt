@@ -1,11 +1,11 @@
 -- The two kinds of record in their slices: what the slices have in an area, whether they have the room, and that they stay as long.
-use Rattle.std.specs.Prelude.{◌≡◌, List, map, cond, ℕ, ◌≤◌, Float, length, get_or, set}
+use Rattle.std.specs.Prelude.{◌≡◌, List, map, cond, ℕ, ◌≤◌, Float, ltb, length, get_or, set, Result}
 use Rattle.std.specs.Float.Ieee.{lt}
 use Rattle.std.specs.Float.{nan}
-use denote.Triple.Both.{Both}
 use Rattle.field_slices.specs.Clearing.{zero_float, zero_point}
-use Rattle.field_slices.specs.Slice.{Slice}
-use Rattle.gapped_slices.specs.Areas.{entries_in, PutsIn}
+use Rattle.field_slices.specs.Places.{pairs, below}
+use Rattle.gapped_slices.specs.Areas.{Lies, entries_in, PutsIn}
+use Rattle.gapped_slices.specs.Spots.{Spotted}
 use Rattle.gapped_slices.specs.declared.areas.Area.{Area}
 use Rattle.model.specs.Finished.{key_part, name_part}
 use Rattle.model.specs.Fold.{Residue, Atom}
@@ -17,7 +17,9 @@ use Rattle.model.specs.Lists.{count}
 use Rattle.model.specs.Map.{Map}
 use Rattle.building.specs.declared.atoms.AtomEntry.{AtomEntry}
 use Rattle.building.specs.declared.residues.ResidueEntry.{ResidueEntry}
+use Rattle.building.specs.declared.stores.Store.{Store}
 use Rattle.building.specs.Holds.{HoldsResidues, HoldsAtoms}
+use Rattle.building.specs.Stores.{Seeks}
 
 -- ---- residues
 
@@ -46,13 +48,6 @@ residues_now r = residues_of r.keys.now r.names.now r.categories.now
 abbrev pub KeepsResidues : ResiduesMut → ResiduesMut → Type 0
 KeepsResidues r after = SameResidues r after × (after.codes.now ≡ r.codes.now) × (after.positions.now ≡ r.positions.now)
 
--- those of a function's parameters, at its entry and at its exit
-abbrev pub residues_by : Slice ℕ → Slice ℕ → Slice ℕ → Both ResidueSlices ResidueSlices
-residues_by keys names marks = record {
-  entry = residues_of keys.entry.now names.entry.now marks.entry.now;
-  exit = residues_of keys.exit.now names.exit.now marks.exit.now;
-}
-
 pub record ResiduesIn (r : ResidueSlices) (a : Area) (m : Map Residue) : Type 0 where
   pub keys_held : entries_in a r.keys ≡ map (λ e. e.key) m
   pub names_held : entries_in a r.names ≡ map (λ e. e.value.name) m
@@ -71,6 +66,14 @@ pub record ResiduesSame (r after : ResidueSlices) : Type 0 where
   pub keys : length after.keys ≡ length r.keys
   pub names : length after.names ≡ length r.names
   pub marks : length after.marks ≡ length r.marks
+
+-- what a look for a residue says in an area, and in both areas of a store
+abbrev pub ResidueSpotted : ResidueSlices → Area → ℕ → Result ℕ ℕ → Type 0
+ResidueSpotted r a key spot = Lies a (length r.keys) → Spotted ltb (entries_in a r.keys) key spot
+
+abbrev pub ResidueSought : ResidueSlices → Store → ℕ → Result ℕ ℕ → Type 0
+ResidueSought r s key sought =
+    Lies s.main (length r.keys) → Lies s.pocket (length r.keys) → Seeks ltb (entries_in s.main r.keys) (entries_in s.pocket r.keys) key s sought
 
 -- one more in an area, at this index
 pub record PutsResidue (a : Area) (at : ℕ) (e : ResidueEntry) (r after : ResidueSlices) : Type 0 where
@@ -110,12 +113,6 @@ pub record IsAtom (e : AtomEntry) (v : Atom) : Type 0 where
   pub position : e.position ≡ coordinates v.position
   pub occupancy : e.occupancy ≡ v.occupancy
 
-abbrev pub atoms_by : Slice ℕ → Slice ℕ → Slice ℕ → Slice (List Float) → Slice Float → Both AtomSlices AtomSlices
-atoms_by keys names elements positions occupancies = record {
-  entry = atoms_of keys.entry.now names.entry.now elements.entry.now positions.entry.now occupancies.entry.now;
-  exit = atoms_of keys.exit.now names.exit.now elements.exit.now positions.exit.now occupancies.exit.now;
-}
-
 pub record AtomsIn (r : AtomSlices) (a : Area) (m : Map Atom) : Type 0 where
   pub keys_held : entries_in a r.keys ≡ map (λ e. key_part e.key) m
   pub names_held : entries_in a r.names ≡ map (λ e. name_part e.key) m
@@ -140,6 +137,19 @@ pub record AtomsSame (r after : AtomSlices) : Type 0 where
   pub positions : length after.positions ≡ length r.positions
   pub occupancies : length after.occupancies ≡ length r.occupancies
 
+-- the keys and names of an area side by side; what a look for an atom says among them, and in both areas of a store
+abbrev pub both_in : AtomSlices → Area → List (ℕ × ℕ)
+both_in r a = pairs (entries_in a r.keys) (entries_in a r.names)
+
+abbrev pub AtomSpotted : AtomSlices → Area → ℕ → ℕ → Result ℕ ℕ → Type 0
+AtomSpotted r a key name spot = Lies a (length r.keys) → Lies a (length r.names) → Spotted below (both_in r a) (key, name) spot
+
+abbrev pub AtomSought : AtomSlices → Store → ℕ → ℕ → Result ℕ ℕ → Type 0
+AtomSought r s key name sought =
+    Lies s.main (length r.keys) → Lies s.main (length r.names) → Lies s.pocket (length r.keys) → Lies s.pocket (length r.names)
+    → Seeks below (both_in r s.main) (both_in r s.pocket) (key, name) s sought
+
+-- one more in an area, at this index
 pub record PutsAtom (a : Area) (at : ℕ) (e : AtomEntry) (r after : AtomSlices) : Type 0 where
   pub keys : PutsIn a at e.key r.keys after.keys
   pub names : PutsIn a at e.name r.names after.names

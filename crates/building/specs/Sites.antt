@@ -1,10 +1,7 @@
 -- What a site does to the lent slices and the counts.
-use Rattle.std.specs.Prelude.{◌≡◌, Bool, true, ◌&&◌, cond, List, ℕ, suc, ◌^◌, ◌≤◌, ◌<◌, leb, ltb, length, set, is_ok, is_err, Option, None, Some, Result, Ok, Err}
-use denote.Triple.Both.{Both}
+use Rattle.std.specs.Prelude.{◌≡◌, Bool, true, ◌&&◌, cond, ℕ, suc, ◌^◌, ◌≤◌, ◌<◌, leb, ltb, is_ok, is_err, Option, None, Some, Result, Ok, Err}
 use Rattle.refusals.specs.declared.details.RecordKind.{RecordKind}
 use Rattle.rows.specs.declared.rules.Site.{Site}
-use Rattle.gapped_slices.specs.Areas.{Lies, entries_in}
-use Rattle.field_slices.specs.Places.{pairs, below}
 use Rattle.model.specs.Fold.{State, step}
 use Rattle.model.specs.Keys.{residue_key}
 use Rattle.model.specs.Lent.{coordinates}
@@ -20,7 +17,7 @@ use Rattle.building.specs.declared.sites.Counts.{Counts}
 use Rattle.building.specs.declared.sites.Places.{Places}
 use Rattle.building.specs.Gaps.{HoldsApart}
 use Rattle.building.specs.Holds.{Records, records_of, SameLengths}
-use Rattle.building.specs.Stores.{Seeks}
+use Rattle.building.specs.Kinds.{ResidueSlices, ResidueSought, AtomSlices, AtomSought}
 
 -- ---- where it goes
 
@@ -29,14 +26,11 @@ abbrev pub is_new_chain : Counts → Places → Bool
 is_new_chain c p = leb c.chains p.chain
 
 -- the places of a site whose chain stands at this place, as the looks say them, in slices that are long enough
-pub record SoughtFor (residue_keys atom_keys atom_names : List ℕ) (h : Held) (place : ℕ) (s : Site) (p : Places) : Type 0 where
+pub record SoughtFor (r : ResidueSlices) (a : AtomSlices) (h : Held) (place : ℕ) (s : Site) (p : Places) : Type 0 where
   pub chain : p.chain ≡ place
   pub key : p.chain ≤ 4096 → p.key ≡ residue_key p.chain s.sequence s.insertion_code
-  pub residue : (let main = h.residues.main in let pocket = h.residues.pocket in Lies main (length residue_keys) → Lies pocket (length residue_keys)
-      → Seeks ltb (entries_in main residue_keys) (entries_in pocket residue_keys) p.key h.residues p.residue)
-  pub atom : (let main = h.atoms.main in let pocket = h.atoms.pocket in
-      Lies main (length atom_keys) → Lies main (length atom_names) → Lies pocket (length atom_keys) → Lies pocket (length atom_names)
-      → Seeks below (pairs (entries_in main atom_keys) (entries_in main atom_names)) (pairs (entries_in pocket atom_keys) (entries_in pocket atom_names)) (p.key, s.atom) h.atoms p.atom)
+  pub residue : ResidueSought r h.residues p.key p.residue
+  pub atom : AtomSought a h.atoms p.key s.atom p.atom
 
 -- what has no room
 unfoldable pub lack_of : Room → Counts → Places → Option RecordKind
@@ -51,10 +45,6 @@ residue_entry key s = record { key = key; name = s.residue; mark = count s.hetat
 
 abbrev pub atom_entry : ℕ → Site → AtomEntry
 atom_entry key s = record { key = key; name = s.atom; element = s.element; position = coordinates s.position; occupancy = s.occupancy }
-
--- the chain list gets the name at the chain's place: a chain that is there is stored where it stands
-abbrev pub with_place : List ℕ → ℕ → ℕ → Both (List ℕ) (List ℕ)
-with_place chains place name = record { entry = chains; exit = set chains place name }
 
 -- one more where that is so, up to the greatest number that there is
 unfoldable pub one_more : Bool → ℕ → ℕ

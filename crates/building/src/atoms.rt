@@ -2,12 +2,9 @@
 ghost use Rattle.model.specs.Fold.{Atom};
 ghost use Rattle.model.specs.Keys.{atom_place};
 ghost use Rattle.model.specs.LentNow.{SameAtoms};
-ghost use Rattle.field_slices.specs.Places.{pairs, below};
-ghost use Rattle.gapped_slices.specs.Areas.{Lies, entries_in};
-ghost use Rattle.gapped_slices.specs.Spots.{Spotted};
-ghost use Rattle.building.specs.Kinds.{atoms_now, atom_entry_at, IsAtom, AtomsIn, AtomsFirst, AtomsLong, AtomsSame, PutsAtom, ReplacesAtom};
+ghost use Rattle.building.specs.Kinds.{atoms_now, atom_entry_at, IsAtom, AtomsIn, AtomsFirst, AtomsLong, AtomsSame, AtomSpotted, PutsAtom, ReplacesAtom};
 ghost use Rattle.building.specs.Stores.{Empties, MakesRoom, PutsNew, Gathered};
-ghost use Rattle.std.specs.Prelude.{◌≡◌, length, get_or};
+ghost use Rattle.std.specs.Prelude.{◌≡◌, get_or};
 ghost use Rattle.std.specs.Float.Ieee.{lt};
 ghost use Rattle.std.specs.Float.{nan};
 
@@ -60,8 +57,7 @@ pub(crate) fn atom_spot(
     key: u64,
     name: u64,
 ) -> Result<usize, usize>
-    ensures { let k = atoms.now.keys.now in let n = atoms.now.names.now in
-        Lies area (length k) → Lies area (length n) → Spotted below (pairs (entries_in area k) (entries_in area n)) (key, name) result }
+    ensures { AtomSpotted (atoms_now atoms.now) area key name result }
 {
     spot_in(atoms.keys, atoms.names, area, key, name)
 }

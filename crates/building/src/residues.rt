@@ -1,10 +1,8 @@
 // The residues in their slices, one to a field, in the two areas of a store. While rows are read the HETATM marks stand where the categories will.
 ghost use Rattle.model.specs.Fold.{Residue};
-ghost use Rattle.gapped_slices.specs.Areas.{Lies, entries_in};
-ghost use Rattle.gapped_slices.specs.Spots.{Spotted};
-ghost use Rattle.building.specs.Kinds.{residues_now, residue_entry_at, IsResidue, KeepsResidues, ResiduesIn, ResiduesFirst, ResiduesLong, ResiduesSame, PutsResidue};
+ghost use Rattle.building.specs.Kinds.{residues_now, residue_entry_at, IsResidue, KeepsResidues, ResiduesIn, ResiduesFirst, ResiduesLong, ResiduesSame, ResidueSpotted, PutsResidue};
 ghost use Rattle.building.specs.Stores.{Empties, MakesRoom, PutsNew, Gathered};
-ghost use Rattle.std.specs.Prelude.{◌≡◌, ltb, length};
+ghost use Rattle.std.specs.Prelude.{◌≡◌};
 
 use crate::stores::{
     Store, Way, emptied, entries_of, in_main, in_pocket, place_of, way_of, widened, with_entry,
@@ -44,7 +42,7 @@ fn residue_at(residues: &ResiduesMut<'_>, at: usize) -> ResidueEntry
 
 // Where a residue is in an area, or as an error where it goes.
 pub(crate) fn residue_spot(residues: &ResiduesMut<'_>, area: Area, key: u64) -> Result<usize, usize>
-    ensures { let k = residues.now.keys.now in Lies area (length k) → Spotted ltb (entries_in area k) key result }
+    ensures { ResidueSpotted (residues_now residues.now) area key result }
 {
     spot_in_key(residues.keys, area, key)
 }

@@ -1,9 +1,6 @@
 // Where a record stands in the slices that was met before, or as an error, where it is new, its index among the entries of main: a look in
 // main, and where it is not there in the pocket, which is nearly always empty.
-ghost use Rattle.std.specs.Prelude.{◌≡◌, ltb, length};
-ghost use Rattle.field_slices.specs.Places.{pairs, below};
-ghost use Rattle.gapped_slices.specs.Areas.{Lies, entries_in};
-ghost use Rattle.building.specs.Stores.{Seeks};
+ghost use Rattle.building.specs.Kinds.{residues_now, ResidueSought, atoms_now, AtomSought};
 
 use crate::atoms::atom_spot;
 use crate::residues::residue_spot;
@@ -16,8 +13,7 @@ pub(crate) fn seek_residue(
     store: Store,
     key: u64,
 ) -> Result<usize, usize>
-    ensures { let k = residues.now.keys.now in Lies store.main (length k) → Lies store.pocket (length k)
-        → Seeks ltb (entries_in store.main k) (entries_in store.pocket k) key store result }
+    ensures { ResidueSought (residues_now residues.now) store key result }
 {
     let main = store.main;
     let pocket = store.pocket;
@@ -41,9 +37,7 @@ pub(crate) fn seek_atom(
     key: u64,
     name: u64,
 ) -> Result<usize, usize>
-    ensures { let k = atoms.now.keys.now in let n = atoms.now.names.now in
-        Lies store.main (length k) → Lies store.main (length n) → Lies store.pocket (length k) → Lies store.pocket (length n)
-        → Seeks below (pairs (entries_in store.main k) (entries_in store.main n)) (pairs (entries_in store.pocket k) (entries_in store.pocket n)) (key, name) store result }
+    ensures { AtomSought (atoms_now atoms.now) store key name result }
 {
     let main = store.main;
     let pocket = store.pocket;

@@ -60,7 +60,7 @@ fn places_of(
     place: usize,
     site: Site,
 ) -> Places
-    ensures { SoughtFor residues.now.keys.now atoms.now.keys.now atoms.now.names.now held place site result }
+    ensures { SoughtFor (residues_now residues.now) (atoms_now atoms.now) held place site result }
 {
     let key = residue_key(place, site.sequence, site.insertion_code);
     Places {
