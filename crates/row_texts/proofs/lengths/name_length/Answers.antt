@@ -1,6 +1,5 @@
 -- A plain name is written as it is; the text of any other, put into a buffer without a byte, ends as far on as it is long.
 use mathlib.Core.Path.{sym, ap, ◌∙◌}
-use native.Mathlib.Omega.{arith}
 use lib.ListN.{length}
 use Rattle.row_texts.proofs.FieldsAreShort.{name_short, counted, from_the_start}
 use Rattle.row_texts.proofs.lengths.name_length.Goals as goal
