@@ -8,5 +8,5 @@ mod storing;
 
 pub use clearing::clear_from;
 pub use entries::entry_at;
-pub use places::{place_of_key, smaller};
+pub use places::place_of_key;
 pub use storing::store;

@@ -1,13 +1,7 @@
 // Where an entry stands among those that ascend, or before which it goes: Ok of its index, or Err of the one before which it goes, as Rust's
 // `binary_search` answers.
-ghost use Rattle.std.specs.Prelude.{◌≡◌, min, ltb, take};
+ghost use Rattle.std.specs.Prelude.{ltb, take};
 ghost use Rattle.field_slices.specs.Places.{Found};
-
-pub fn smaller(m: usize, n: usize) -> usize
-    ensures { result ≡ min m n }
-{
-    m.min(n)
-}
 
 // Where key stands among the first n entries, or all of them where there are fewer. The last entry is looked at first, since entries
 // nearly always come in order: one that is greater goes behind it, one that is the same is there.

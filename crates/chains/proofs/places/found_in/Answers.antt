@@ -1,5 +1,5 @@
 -- A place that is looked at is one of the first so many records; where none of them has the name it stands nowhere.
-use Rattle.std.proofs.Common.{◌≡◌, ℕ, length, take, sym, ◌∙◌, subst, arith}
+use Rattle.std.proofs.Common.{◌≡◌, length, take, sym, ◌∙◌, subst, arith}
 use Rattle.building.specs.Slices.{ChainFound}
 use Rattle.chains.specs.Names.{names_in}
 use Rattle.chains.proofs.PlaceLaws.{Missed, none_found, length_first, inside, found_there, missed_there}
