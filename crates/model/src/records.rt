@@ -5,7 +5,7 @@ ghost use Rattle.model.specs.LentNow.{lent_now};
 ghost use Rattle.model.specs.TakenOut.{residue_out, atom_out};
 
 use crate::lent::{AtomsMut, ResiduesMut};
-use crate::room::{self, Room};
+use crate::room::{Room, room_by};
 use crate::taken_out::{self, Atom, Residue};
 
 #[derive(Clone, Copy)]
@@ -48,21 +48,22 @@ impl<'a> Records<'a> {
     }
 
     // The room of the lent slices.
+    #[tactic(auto, unfolding(crate::specs::Lent::room_of))]
     pub fn room(self) -> Room
         ensures { result ≡ room_of (lent_in self.entry) }
     {
-        room::room_of(
+        room_by(
             self.chains.len(),
-            self.residue_keys,
-            self.residue_names,
-            self.residue_codes,
-            self.residue_categories,
-            self.residue_positions,
-            self.atom_keys,
-            self.atom_names,
-            self.elements,
-            self.positions,
-            self.occupancies,
+            self.residue_keys.len(),
+            self.residue_names.len(),
+            self.residue_codes.len(),
+            self.residue_categories.len(),
+            self.residue_positions.len(),
+            self.atom_keys.len(),
+            self.atom_names.len(),
+            self.elements.len(),
+            self.positions.len(),
+            self.occupancies.len(),
         )
     }
 

@@ -1,6 +1,6 @@
 // The room for chains, residues and atoms: the sizes of document 01, and no more than the shortest slice has.
-ghost use Rattle.std.specs.Prelude.{List, ◌≡◌, ℕ, min, length};
-ghost use Rattle.model.specs.Lent.{lent_of, room_by, room_of, no_records};
+ghost use Rattle.std.specs.Prelude.{◌≡◌, min};
+ghost use Rattle.model.specs.Lent.{room_by, no_records};
 
 // The sizes: so many of each at most.
 const CHAINS: usize = 4096;
@@ -61,36 +61,4 @@ pub fn room_by(
         residues: RESIDUES.min(residues),
         atoms: ATOMS.min(atoms),
     }
-}
-
-pub fn room_of(
-    chains: usize,
-    residue_keys: &[u64],
-    residue_names: &[u64],
-    residue_codes: &[u8],
-    residue_categories: &[u8],
-    residue_positions: &[u8],
-    atom_keys: &[u64],
-    atom_names: &[u64],
-    elements: &[u8],
-    positions: &[[f64; 3]],
-    occupancies: &[f64],
-) -> Room
-    ensures { (names : List ℕ) → length names ≡ chains →
-        let l = lent_of names residue_keys.now residue_names.now residue_codes.now residue_categories.now residue_positions.now atom_keys.now atom_names.now elements.now positions.now occupancies.now in
-        result ≡ room_of l }
-{
-    room_by(
-        chains,
-        residue_keys.len(),
-        residue_names.len(),
-        residue_codes.len(),
-        residue_categories.len(),
-        residue_positions.len(),
-        atom_keys.len(),
-        atom_names.len(),
-        elements.len(),
-        positions.len(),
-        occupancies.len(),
-    )
 }
