@@ -68,7 +68,7 @@ fn is_own(run: Option<u64>, stage: Stage) -> bool
     }
 }
 
-// Up to the next row that is kept, to a refusal, or to the text's end.
+// Up to the next row that is kept, to a refusal, or to the text's end. By places, since where a line ends is known only once it is found.
 fn to_next_row(text: &[u8], settings: Settings, from: Stage) -> Stage
     ensures { GoesOnTo text.now settings (between_rows from) result }
 {
@@ -126,7 +126,7 @@ fn put_waiting(
 }
 
 // The row that waits and all that follow on it in its chain; where none waits, up to the first row. Each step is called from one place alone, so that the compiler builds all of them into
-// this loop: a plan, a site or a stage that comes back from a call costs more than the work on it.
+// this loop: a plan, a site or a stage that comes back from a call costs more than the work on it. Text, settings and room stay side by side, since each step takes but some of them.
 fn walk(
     text: &[u8],
     residues: &mut ResiduesMut<'_>,

@@ -7,7 +7,7 @@ use mathlib.Core.List.{List}
 use Prim.Native.Nat.{ℕ}
 use lib.Dec.{ltb}
 use lib.ListN.{length}
-use Rattle.std.specs.Prelude.{Option, Some, None, Result, Ok, Err}
+use Rattle.std.specs.Prelude.{Option, Some, None, Result, Err}
 use borrow.Author.Tests.{ltb-false}
 use Rattle.lines.specs.Domain.{outside_of}
 use Rattle.lines.specs.declared.domain.Outside.{Outside}

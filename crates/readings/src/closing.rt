@@ -10,6 +10,7 @@ use finishing::{Unknown, clear_records, finish_model};
 use model::{AtomsMut, ResiduesMut, no_records};
 use refusals::{Reason, Refusal};
 
+// No `?`, since neither error is of this crate.
 fn finished_by(finish: Result<(), Unknown>, counts: Counts) -> Result<Counts, Refusal>
     ensures { result ≡ finished_by finish counts }
 {

@@ -1,6 +1,5 @@
 -- What lacks the room is refused, and else the slices hold the model with the site; the site's numbers fit their types.
 use native.Mathlib.Omega.{arith}
-use lib.ListN.{set}
 use Rattle.building.specs.Holds.{records_now}
 use Rattle.acts.proofs.ActLaws.{put_kept}
 use Rattle.acts.proofs.doing.keep_site.Goals as goal
