@@ -3,13 +3,11 @@ use mathlib.Core.Path.{◌≡◌, refl, ◌∙◌, subst}
 use mathlib.Core.List.{List, [], ◌∷◌}
 use Prim.Native.Nat.{ℕ, suc, ◌+◌}
 use lib.ListN.{length, length-append}
-use Rattle.std.specs.Prelude.{Option, Some, None, Result, Ok, Err}
+use Rattle.std.specs.Prelude.{Some, None, Ok, Err}
 use Rattle.lines.specs.Lines.{lines_of}
 use Rattle.rows.specs.Fields.{fields_of}
-use Rattle.rows.specs.Rules.{row_of}
+use Rattle.rows.specs.Rules.{Row, row_of}
 use Rattle.rows.specs.declared.columns.Columns.{Columns}
-use Rattle.rows.specs.declared.rules.Site.{Site}
-use Rattle.refusals.specs.declared.reasons.Reason.{Reason}
 use Rattle.rows.specs.declared.settings.Settings.{Settings}
 use Rattle.line_states.specs.Heads.{start_heads}
 use Rattle.line_states.specs.States.{moved_by}
@@ -41,7 +39,7 @@ module _ (settings : Settings) where
   row_counted line columns Nothing g = refl
   row_counted line columns Does.Row g = go (row_of settings (fields_of columns line)) g
     where
-      go : (r : Result (Option Site) Reason) → GoesOn (row_act r) → length (taken_by Does.Row r) ≡ 1
+      go : (r : Row) → GoesOn (row_act r) → length (taken_by Does.Row r) ≡ 1
       go (Err why) g = absurd g
       go (Ok None) g = refl
       go (Ok (Some s)) g = refl
