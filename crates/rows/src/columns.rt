@@ -2,6 +2,7 @@
 ghost use Rattle.std.specs.Prelude.{◌≡◌, ◌<◌};
 ghost use Rattle.rows.specs.Columns.{no_columns, with_column, column_of, is_absent, chosen, group, atom, residue, chain, sequence, insertion_code, x, y, z, occupancy, symbol};
 
+// A number and no Option: the map is its fifteen bytes, `no_columns` promises that each is 64, and a map of Options would be twice as long for each row.
 const ABSENT: u8 = 64;
 
 #[derive(Clone, Copy)]
