@@ -16,6 +16,7 @@ use rows::Point3;
 // What a row of the atom loop says.
 #[derive(Clone, Copy)]
 pub struct AtomRow {
+    // Beside the number and not in an Option with it: the theorems of the return trip speak of both in every row.
     pub polymer: bool,
     pub id: u64,
     pub element: u8,

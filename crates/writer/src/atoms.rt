@@ -32,6 +32,7 @@ fn atom_row(chains: &[u64], id: u64, atom: Atom, walk: Walk) -> AtomRow
     }
 }
 
+// By indices: in records that are not well formed a slice may be shorter than the count, and what is past its end counts as 0.
 fn put_atom_rows(out: &mut [u8], at: usize, records: Records, counts: Room) -> usize
     requires { Walkable records.chains.now counts }
     ensures { let l = lent_in records.entry in well_formed_in l counts ≡ true → Emits out at (atoms_of (model_in l counts)) result }
