@@ -4,9 +4,11 @@ ghost use Rattle.model.specs.Lent.{room_of, residue_in, atom_in, lent_in};
 ghost use Rattle.model.specs.LentNow.{lent_now};
 ghost use Rattle.model.specs.TakenOut.{residue_out, atom_out};
 
+use crate::keys::{chain_part, code_part, sequence_part};
 use crate::lent::{AtomsMut, ResiduesMut};
 use crate::room::{Room, room_by};
-use crate::taken_out::{self, Atom, Residue};
+use crate::taken_out::{Atom, Residue, point_of, signed};
+use field_slices::entry_at;
 
 #[derive(Clone, Copy)]
 pub struct Records<'a> {
@@ -71,27 +73,28 @@ impl<'a> Records<'a> {
     pub fn residue_at(self, i: usize) -> Residue
         ensures { result ≡ residue_out (residue_in (lent_in self.entry) i) }
     {
-        taken_out::residue_at(
-            self.residue_keys,
-            self.residue_names,
-            self.residue_codes,
-            self.residue_categories,
-            self.residue_positions,
-            i,
-        )
+        let key = entry_at(self.residue_keys, i, 0);
+        Residue {
+            chain: chain_part(key),
+            sequence: signed(sequence_part(key)),
+            insertion_code: code_part(key),
+            name: entry_at(self.residue_names, i, 0),
+            code: entry_at(self.residue_codes, i, 0),
+            category: entry_at(self.residue_categories, i, 0),
+            position: entry_at(self.residue_positions, i, 0),
+        }
     }
 
     // The atom at an index, by value.
     pub fn atom_at(self, i: usize) -> Atom
         ensures { result ≡ atom_out (atom_in (lent_in self.entry) i) }
     {
-        taken_out::atom_at(
-            self.atom_keys,
-            self.atom_names,
-            self.elements,
-            self.positions,
-            self.occupancies,
-            i,
-        )
+        Atom {
+            key: entry_at(self.atom_keys, i, 0),
+            name: entry_at(self.atom_names, i, 0),
+            element: entry_at(self.elements, i, 0),
+            position: point_of(entry_at(self.positions, i, [0.0; 3])),
+            occupancy: entry_at(self.occupancies, i, 0.0),
+        }
     }
 }

@@ -4,7 +4,7 @@ use mir.Syntax.{w32}
 use mir.ValLaws.{to_z-of_z}
 use Rattle.model.specs.Keys.{chain_part, sequence_part, code_part}
 use Rattle.model.specs.TakenOut.{signed, residue_out}
-use Rattle.model.proofs.taken_out.residue_at.Goals as goal
+use Rattle.model.proofs.records.Records.residue_at.Goals as goal
 
 pub returns : goal.returns
 unfolding residue_out

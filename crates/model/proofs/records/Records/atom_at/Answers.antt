@@ -2,7 +2,7 @@
 use mathlib.Core.Path.{ap, ◌∙◌}
 use Rattle.model.specs.Lent.{point_of}
 use Rattle.model.specs.TakenOut.{atom_out}
-use Rattle.model.proofs.taken_out.atom_at.Goals as goal
+use Rattle.model.proofs.records.Records.atom_at.Goals as goal
 
 pub returns : goal.returns
 unfolding atom_out
