@@ -1,4 +1,5 @@
-// The atoms in their slices, one to a field, in the two areas of a store.
+// The atoms in their slices, one to a field, in the two areas of a store. The residues have functions that are alike: one trait for both would say each
+// contract through seven ghost members and their laws, which reads no plainer than a few short functions twice.
 ghost use Rattle.model.specs.Fold.{Atom};
 ghost use Rattle.model.specs.Keys.{atom_place};
 ghost use Rattle.model.specs.LentNow.{SameAtoms};

@@ -3,7 +3,7 @@ ghost use Rattle.std.specs.Prelude.{◌≡◌, ◌+◌, ◌≤◌, length, take,
 ghost use Rattle.model.specs.Chains.{chain_place};
 ghost use Rattle.building.specs.Slices.{ChainFound};
 
-// The walk over the first n chains, from this one on.
+// The walk over the first n chains, from this one on: by index, as the place is what it gives, in both halves.
 fn walk(chains: &[u64], n: usize, from: usize, name: u64) -> usize
     requires { (n ≤ length chains.now) × (from ≤ n) }
     ensures { result ≡ from + chain_place name (drop from (take n chains.now)) }

@@ -7,7 +7,7 @@ use names::{ResidueCategory, Resolved};
 #[derive(Clone, Copy)]
 pub struct Class {
     pub name: u64,
-    // 0 where it is no standard residue.
+    // The numbers of the standard residue, 0 where it is none, and of the category, as C's slices have them.
     pub code: u8,
     pub category: u8,
 }

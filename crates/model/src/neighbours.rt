@@ -6,7 +6,7 @@ ghost use Rattle.model.specs.Neighbours.{lessers, alone_in, met_with, ends_chain
 use crate::keys::chain_part;
 use crate::termini::{is_polymer, position_of};
 
-// Past those of the first n that are less than key, from an index on.
+// Past those of the first n that are less than key, from an index on. Each walk begins where the last one ended, so no iterator is kept.
 pub fn pass_lesser(keys: &[u64], n: usize, from: usize, key: u64) -> usize
     ensures { result ≡ from + lessers key (drop from (take n keys.now)) }
 {
