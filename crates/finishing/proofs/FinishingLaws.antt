@@ -6,7 +6,7 @@ use mathlib.Core.Option as math
 use Prim.Native.Nat.{ℕ, ◌≤◌, ◌<◌, min}
 use native.Mathlib.Omega.{arith}
 use lib.ListN.{length, get_or, take, length-map}
-use Prim.{Unit, tt}
+use Prim.{Unit}
 use Rattle.std.specs.Prelude.{Option, Some, None, Result}
 use Rattle.names.specs.Places.{ascends}
 use Rattle.field_slices.specs.Clearing.{cleared, zero_float, zero_point}
@@ -14,7 +14,7 @@ use Rattle.model.specs.Classes.{class_of, is_lone}
 use Rattle.model.specs.declared.classes.Class.{Class}
 use Rattle.model.specs.Finished.{unknown, known, atom_record, classified, positioned, all_positioned, model_from, unless, finished_of, Peopled}
 use Rattle.model.specs.Fold.{State}
-use Rattle.model.specs.Lent.{Lent, lent_of, room_of, no_records, coordinates, padded, holding}
+use Rattle.model.specs.Lent.{Lent, lent_of, room_of, coordinates, padded, holding}
 use Rattle.model.specs.Records.{ResidueRecord, AtomRecord}
 use Rattle.model.specs.Termini.{ruled_position}
 use Rattle.model.proofs.AscendingLaws.{map_ascends}

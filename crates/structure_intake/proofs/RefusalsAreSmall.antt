@@ -8,7 +8,7 @@ use Prim.Native.Nat.{ℕ, suc, ◌+◌, ◌^◌, ◌≤◌, ◌<◌}
 use native.Mathlib.Omega.{arith}
 use lib.Dec.{eqb}
 use lib.ListN.{length, length-append}
-use Rattle.std.specs.Prelude.{Option, Some}
+use Rattle.std.specs.Prelude.{Some}
 use Rattle.refusals.specs.Details.{column_number, axis_number, quantity_number, label_number, kind_number}
 use Rattle.refusals.specs.Reasons.{number_of, detail_of}
 use Rattle.refusals.specs.declared.details.Axis.{Axis}
@@ -28,7 +28,6 @@ use Rattle.ascii.specs.Bytes.{first}
 use Rattle.rows.specs.declared.settings.Settings.{Settings}
 use Rattle.lines.specs.Domain.{is_allowed, line_after, outside_from}
 use Rattle.lines.specs.Lines.{lines_of}
-use Rattle.lines.specs.declared.domain.Outside.{Outside}
 use Rattle.lines.proofs.LinesFitTheText.{lines_fit}
 use Rattle.model.specs.Finished.{unknown_in, model_from, unless, finished_of}
 use Rattle.model.specs.Fold.{State}

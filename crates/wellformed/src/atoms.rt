@@ -11,6 +11,7 @@ fn is_atom_well(name: u64, element: u8, position: [f64; 3]) -> bool
     is_name(name) && element <= 118 && is_near(position)
 }
 
+// A field stands in a slice of its own, so an index goes over all of them.
 pub(crate) fn are_atoms_well(records: Records<'_>, n: usize) -> bool
     requires { (n ≤ length records.atom_names.now) × (n ≤ length records.elements.now) × (n ≤ length records.positions.now) }
     ensures { result ≡ atoms_well records.entry.atom_names.now records.entry.elements.now records.entry.positions.now n }

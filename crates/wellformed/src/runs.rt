@@ -7,7 +7,7 @@ ghost use Rattle.wellformed.specs.Slices.{entries, chains_run, residues_run, Wit
 
 use model::{Records, Room, chain_part};
 
-// Past those of the first n residues, from an index on, that are of the chain at a place.
+// Past those of the first n residues, from an index on, that are of the chain at a place. The index where the run ends is the answer.
 fn pass_chain(keys: &[u64], n: usize, from: usize, place: u64) -> usize
     requires { n ≤ length keys.now }
     ensures { result ≡ from + equals place (list_from (λ i. chain_part (entries keys.now i)) from (n - from)) }
@@ -19,7 +19,7 @@ fn pass_chain(keys: &[u64], n: usize, from: usize, place: u64) -> usize
     i
 }
 
-// Past those of the first n atoms, from an index on, that are of the residue of a key.
+// Past those of the first n atoms, from an index on, that are of the residue of a key; likewise.
 fn pass_residue(keys: &[u64], n: usize, from: usize, key: u64) -> usize
     requires { n ≤ length keys.now }
     ensures { result ≡ from + equals key (list_from (entries keys.now) from (n - from)) }

@@ -1,7 +1,6 @@
 -- The walks' answers are those of the finished model, and the slices are cleared from its counts on, or throughout; so are the chains where another clears
 -- them by the answer.
 use mathlib.Core.Path.{◌≡◌, refl, ap, ◌∙◌}
-use mathlib.Core.List.{List}
 use Prim.Native.Nat.{ℕ}
 use lib.ListN.{length}
 use Rattle.field_slices.specs.Clearing.{cleared}

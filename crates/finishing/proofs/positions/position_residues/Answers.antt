@@ -1,8 +1,7 @@
 -- Each turn stores one residue's position and takes the residue with it to the next.
-use mathlib.Core.Path.{refl, ap, ◌∙◌}
-use mathlib.Core.List.{List}
+use mathlib.Core.Path.{refl, ◌∙◌}
 use native.Mathlib.Omega.{arith}
-use Prim.Native.Nat.{ℕ, ◌+◌}
+use Prim.Native.Nat.{◌+◌}
 use lib.ListN.{get_or, take, drop}
 use Rattle.std.proofs.Common.{rules}
 use Rattle.field_slices.specs.Places.{pairs}

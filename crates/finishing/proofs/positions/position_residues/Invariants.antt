@@ -1,4 +1,3 @@
-use Rattle.std.proofs.Common.{◌≡◌}
 use Rattle.model.specs.LentNow.{SameResidues}
 use Rattle.finishing.specs.Positioning.{PositionsAlone}
 use Rattle.finishing.proofs.PositioningLaws.{Positioning}
