@@ -1,7 +1,7 @@
 -- What a key's places in the two areas say: whether the map has it, and what a put of it leaves, in the area that has it and in the map.
 use Prim.{Dec, yes, no}
 use mathlib.Core.Path.{◌≡◌, refl, sym, ap, ◌∙◌, subst}
-use mathlib.Core.Bool.{true, false, cond, false≢true}
+use mathlib.Core.Bool.{cond, false≢true}
 use mathlib.Core.Logic.{◌⊎◌, inl, inr}
 use mathlib.Core.Option.{Option, none, some, none-ne-some}
 use Prim.Native.Nat.{ℕ, suc}

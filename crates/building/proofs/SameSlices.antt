@@ -1,6 +1,6 @@
 -- Slices that stay the same from one step to the next are the same after both.
-use mathlib.Core.Path.{◌≡◌, ◌∙◌}
-use Rattle.model.specs.LentNow.{SameResidues, SameAtoms}
+use mathlib.Core.Path.{◌∙◌}
+use Rattle.model.specs.LentNow.{SameAtoms}
 use Rattle.model.specs.declared.lent.AtomsMut.{AtomsMut}
 use Rattle.model.specs.declared.lent.ResiduesMut.{ResiduesMut}
 use Rattle.building.specs.Kinds.{KeepsResidues}

@@ -5,7 +5,7 @@ use lib.ListN.{length}
 use Rattle.field_slices.specs.Places.{pairs}
 use Rattle.field_slices.proofs.OrderLaws.{by_both}
 use Rattle.gapped_slices.specs.Areas.{many, entries_in}
-use Rattle.building.proofs.SeekLaws.{in_main, in_pocket, nowhere, none_in_pocket, length_both, none_of_both}
+use Rattle.building.proofs.SeekLaws.{in_main, in_pocket, none_in_pocket, length_both, none_of_both}
 use Rattle.building.proofs.seeking.seek_atom.Goals as goal
 
 pub returns-in-Ok : goal.returns-in-Ok

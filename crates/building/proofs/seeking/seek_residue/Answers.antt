@@ -6,7 +6,7 @@ use Rattle.field_slices.proofs.OrderLaws.{numbers}
 use Rattle.gapped_slices.specs.Areas.{many, entries_in}
 use Rattle.gapped_slices.proofs.AreaLaws.{length_entries}
 use Rattle.building.proofs.AreaFields.{none_in}
-use Rattle.building.proofs.SeekLaws.{in_main, in_pocket, nowhere, none_in_pocket}
+use Rattle.building.proofs.SeekLaws.{in_main, in_pocket, none_in_pocket}
 use Rattle.building.proofs.seeking.seek_residue.Goals as goal
 
 pub returns-in-Ok : goal.returns-in-Ok
