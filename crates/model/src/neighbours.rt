@@ -27,7 +27,8 @@ pub fn is_alone(keys: &[u64], n: usize, at: usize, key: u64) -> bool
     count.saturating_sub(at) < 2 || keys[at + 1] != key
 }
 
-// The chain, from 1, of the last Standard non-HOH residue that was met, this one included.
+// The chain, from 1, of the last Standard non-HOH residue that was met, this one included; 0 where none was. 0 is below every chain, so that what was
+// met ascends with the residues, by which the laws tell the first of a chain: an Option would need an order of its own there.
 pub fn met_with(met: u64, key: u64, code: u8) -> u64
     ensures { result ≡ met_with met key code }
 {
