@@ -3,7 +3,9 @@ use Rattle.std.proofs.Common.{◌∙◌, ap, subst}
 use Rattle.std.proofs.lemmas.List.Edits.{sets}
 use Rattle.rows.specs.declared.settings.Settings.{Settings}
 use Rattle.model.specs.Lent.{Lent, lent_of}
-use Rattle.readings.specs.declared.answers.Answer.{Answer}
+use Rattle.std.specs.Prelude.{Result}
+use Rattle.building.specs.declared.sites.Counts.{Counts}
+use Rattle.refusals.specs.declared.reasons.Refusal.{Refusal}
 use Rattle.reader.specs.Reading.{ReadBy}
 use Rattle.chains.specs.Names.{names_in}
 use Rattle.probe_structures.specs.Readings.{numbers_of}
@@ -19,4 +21,4 @@ returns c =
     let after : Lent = lent_of (names_in n.chains) n.residue_keys n.residue_names n.residue_codes n.residue_categories n.residue_positions
     n.atom_keys n.atom_names n.elements n.positions n.occupancies in
     let read = subst (λ (s : Settings). ReadBy s before a.text.now r.result after) c.assuming.ensures r.ensures in
-    (c.put_numbers.ensures ∙ ap (λ (answer : Answer). sets a.numbers.now 0 (numbers_of answer)) read.0, read.1)
+    (c.put_numbers.ensures ∙ ap (λ (answer : Result Counts Refusal). sets a.numbers.now 0 (numbers_of answer)) read.0, read.1)
