@@ -113,5 +113,5 @@ module _ (m : Model) (w : Well m) where
   pub finish_again : finished_of (state_in m) ≡ known (returned m)
   unfolding finished_of
   finish_again =
-      ap (λ (o : Option ℕ). unless o (model_from (state_in m))) (none_unknown m.residues (all_of (ResidueSo m) m.residues w.residues))
+      (λ i. unless (none_unknown m.residues (all_of (ResidueSo m) m.residues w.residues) i) (model_from (state_in m)))
       ∙ ap known model_again
