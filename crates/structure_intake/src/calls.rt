@@ -18,10 +18,10 @@ const BAD_RESULT: u32 = 26;
 fn renewed(result_size: usize, size: usize) -> usize
     ensures { result ≡ renewed_in result_size size }
 {
-    match result_size {
-        28 => size,
-        _ => 0,
+    if result_size == 28 {
+        return size;
     }
+    0
 }
 
 // The call by names, in the first so many. The names come as a slice, of which a part is lent on.

@@ -2,8 +2,8 @@
 use borrow.Author.Tests.{ne_eqb}
 use Rattle.structure_intake.proofs.calls.renewed.Goals as goal
 
-pub returns-in-28 : goal.returns-in-28
-returns-in-28 c = rw c.in-28.is
+pub returns-then-result_size-eq28 : goal.returns-then-result_size-eq28
+returns-then-result_size-eq28 c = rw c.if-result_size-eq28.true
 
-pub returns-in_default : goal.returns-in_default
-returns-in_default c = rw (ne_eqb c.args.result_size 28 c.in_default.is)
+pub returns : goal.returns
+returns c = rw (ne_eqb c.args.result_size 28 c.if-result_size-eq28.false)
