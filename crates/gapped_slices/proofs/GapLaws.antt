@@ -29,7 +29,7 @@ within_rest front behind size h = go (leb front (size - behind)) refl
 
 module _ {A : Type 0} where
   -- ---- entries copied over the gap
-  parted : (front behind from : ℕ) (l : List A) → from + behind ≡ length l → closed front behind l ≡ take front l ++ drop from l
+  pub parted : (front behind from : ℕ) (l : List A) → from + behind ≡ length l → closed front behind l ≡ take front l ++ drop from l
   unfolding closed
   parted front behind from l e = let q : length l - behind ≡ from = omega arith in ap (λ (n : ℕ). take front l ++ drop n l) q
 
