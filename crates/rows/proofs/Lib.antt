@@ -1,6 +1,7 @@
 pub mod AuthBeforeLabel
 pub mod CellLaws
 pub mod ColumnsByItem
+pub mod FurthestDecides
 pub mod LaterColumnCounts
 pub mod ReachLaws
 pub mod RowCases

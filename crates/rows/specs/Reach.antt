@@ -1,5 +1,5 @@
 -- Steps 1 to 3 of a row: which column is missing, and whether the row reaches all that it must.
-use Rattle.std.specs.Prelude.{ℕ, Bool, ◌&&◌, ◌||◌, not, cond, List, [], ◌∷◌, leb, Option, Some, None, Result, Ok, Err, option_map}
+use Rattle.std.specs.Prelude.{ℕ, Bool, ◌&&◌, ◌||◌, not, cond, List, [], ◌∷◌, leb, ltb, Option, Some, None, Result, Ok, Err, option_map}
 use Rattle.std.specs.List.{list_any, position_from}
 use Rattle.refusals.specs.declared.details.Column.{Column}
 use Rattle.refusals.specs.declared.reasons.Reason.{Reason}
@@ -46,3 +46,15 @@ reach_by None short = cond short (Err Short) (Ok tt)
 
 unfoldable pub reach_of : Columns → ℕ → Reach
 reach_of columns n = reach_by (missing_column columns) (is_short columns n)
+
+-- ---- the furthest column, by which a row of n tokens is told to be short at once
+
+abbrev pub farther : ℕ → ℕ → ℕ
+farther far column = cond (is_absent column) far (cond (ltb far column) column far)
+
+unfoldable pub furthest : ℕ → List ℕ → ℕ
+furthest far [] = far
+furthest far (column ∷ columns) = furthest (farther far column) columns
+
+unfoldable pub furthest_of : Columns → ℕ
+furthest_of columns = furthest (furthest 0 (required columns)) (optional columns)
