@@ -1,5 +1,5 @@
 -- What is served fits the buffer: a text that does not is refused by 14.
-use mathlib.Core.Path.{◌≡◌, refl, sym, ◌∙◌}
+use mathlib.Core.Path.{◌≡◌, refl, sym, ap, ◌∙◌}
 use mathlib.Core.Bool.{Bool, true, false, cond}
 use mathlib.Core.List.{List}
 use Prim.Native.Nat.{ℕ, ◌≤◌}
@@ -7,7 +7,7 @@ use native.Mathlib.Omega.{arith}
 use lib.Dec.{leb}
 use lib.ListN.{length}
 use borrow.Author.Tests.{leb-true}
-use Rattle.std.specs.Prelude.{Option, Some, None, Result, Ok}
+use Rattle.std.specs.Prelude.{Option, Some, None, Result, Ok, Err}
 use Rattle.refusals.specs.declared.reasons.Reason.TheVariants.{OutputTooShort}
 use Rattle.refusals.specs.declared.reasons.Refusal.{Refusal}
 use Rattle.rows.specs.declared.settings.Settings.{Settings}
@@ -28,9 +28,14 @@ module _ (size n : ℕ) (counts : Counts) where
   abbrev Is : Result Served Refusal → Type 0
   Is answer = answer ≡ Ok (record { written = n; counts = counts })
 
+  written_in : Result Served Refusal → ℕ
+  written_in (Ok s) = s.written
+  written_in (Err why) = 0
+
   by_size : (m : Model) (c : Counts) (t : Bool) → (t ≡ true → length (text_of m) ≤ size)
       → Is (answer_of (by_writing m c (cond t (written (text_of m)) (writer.refused (OutputTooShort (length (text_of m))))))) → n ≤ size
-  by_size m c true h e = let same : length (text_of m) ≡ n = cc in omega (arith, h refl)
+  unfolding text_of written_in
+  by_size m c true h e = let same : length (text_of m) ≡ n = ap written_in e in omega (arith, h refl)
   by_size m c false h e = let z : ◌≡◌ {A = ℕ} 0 1 = cc in absurd (omega arith)
 
   by_atom : (m : Model) (c : Counts) (id : Option ℕ) → Is (answer_of (by_writing m c (written_but id size m))) → n ≤ size
