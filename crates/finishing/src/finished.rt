@@ -3,6 +3,7 @@ ghost use Rattle.std.specs.Prelude.{List, ◌≡◌, ℕ};
 ghost use Rattle.field_slices.specs.Clearing.{cleared};
 ghost use Rattle.model.specs.LentNow.{lent_now, SameResidues, SameAtoms};
 ghost use Rattle.finishing.specs.Finishing.{kept_by, finish_by, chains_kept, Ends};
+ghost use Rattle.finishing.specs.Sizes.{SameSizes};
 
 use crate::classes::classify_residues;
 use crate::clearing::clear_records;
@@ -45,6 +46,7 @@ pub fn finish_model(
 ) -> Result<(), Unknown>
     ensures same_residues { SameResidues residues.old residues.new }
     ensures same_atoms { SameAtoms atoms.old atoms.new }
+    ensures lengths { SameSizes residues.old atoms.old residues.new atoms.new }
     ensures ends { (names : List ℕ) →
         Ends (lent_now names residues.old atoms.old) counts result (lent_now (cleared 0 (chains_kept result counts) names) residues.new atoms.new) }
 {

@@ -2,6 +2,7 @@
 ghost use Rattle.std.specs.Prelude.{List, ◌≡◌, ℕ};
 ghost use Rattle.field_slices.specs.Clearing.{cleared};
 ghost use Rattle.model.specs.LentNow.{lent_now, SameResidues, SameAtoms};
+ghost use Rattle.finishing.specs.Sizes.{SameSizes};
 ghost use Rattle.readings.specs.Closing.{finished_by, chains_left, Closes};
 
 use acts::Standing;
@@ -43,6 +44,7 @@ pub fn close(
 ) -> Result<Counts, Refusal>
     ensures same_residues { SameResidues residues.old residues.new }
     ensures same_atoms { SameAtoms atoms.old atoms.new }
+    ensures lengths { SameSizes residues.old atoms.old residues.new atoms.new }
     ensures closes { (names : List ℕ) →
         Closes (lent_now names residues.old atoms.old) standing result (lent_now (cleared 0 (chains_left result) names) residues.new atoms.new) }
 {

@@ -1,6 +1,7 @@
 -- The walks' answers are those of the finished model, and the slices are cleared from its counts on, or throughout; so are the chains where another clears
--- them by the answer.
+-- them by the answer. No walk makes a slice longer or shorter.
 use mathlib.Core.Path.{◌≡◌, refl, ap, ◌∙◌}
+use mathlib.Core.List.{[]}
 use Prim.Native.Nat.{ℕ}
 use lib.ListN.{length}
 use Rattle.field_slices.specs.Clearing.{cleared}
@@ -9,6 +10,8 @@ use Rattle.model.specs.LentNow.{lent_now}
 use Rattle.finishing.specs.Clearing.{cleared_from}
 use Rattle.finishing.specs.Filling.{filled}
 use Rattle.finishing.specs.Positioning.{position_at}
+use Rattle.finishing.specs.Sizes.{SameSizes}
+use Rattle.finishing.proofs.ClearingLaws.{cleared_sizes}
 use Rattle.finishing.proofs.FillingLaws.{length_filled}
 use Rattle.finishing.proofs.FinishingLaws.{walked, chains_kept_lem, model_ends}
 use Rattle.finishing.proofs.finished.finish_model.Goals as goal
@@ -47,3 +50,23 @@ returns-clause-ends c =
     _ (ap (λ (m : ℕ). lent_now (cleared 0 m names) after.residues after.atoms) (chains_kept_lem u.result c.args.counts c.kept_by.ensures c.finish_by.ensures)
     ∙ c.clear_records.ensures.zeros names ∙ ap (λ (x : Lent). cleared_from x c.kept_by.result) here)
     _ c.finish_by.ensures
+
+pub returns-clause-lengths : goal.returns-clause-lengths
+returns-clause-lengths c =
+    let w = c.classify_residues-unknown.ensures.classified in
+    let p = c.position_residues.ensures in
+    let then = c.position_residues.new.residues in
+    let atoms = c.args.atoms.now in
+    let after = c.clear_records.new in
+    let z : SameSizes then atoms after.residues after.atoms = cleared_sizes [] _ c.kept_by.result then after.residues atoms after.atoms (c.clear_records.ensures.zeros []) in (
+      z.0 ∙ ap length (p.others.keys ∙ w.keys),
+      z.1 ∙ ap length p.others.names ∙ w.long.0,
+      z.2 ∙ ap length p.others.codes ∙ w.long.1,
+      z.3 ∙ ap length p.others.categories ∙ w.long.2,
+      z.4 ∙ ap length p.positions ∙ length_filled _ c.args.counts.residues _ ∙ ap length w.positions,
+      z.5,
+      z.6,
+      z.7,
+      z.8,
+      z.9,
+    )

@@ -1,8 +1,8 @@
 -- A refusal is told and all is cleared; else the records are gathered, and the finished model is left. The chains are so where another clears them by the
--- answer.
+-- answer. No slice becomes longer or shorter on either way.
 use Prim.{Unit, tt}
 use mathlib.Core.Path.{◌≡◌, refl, sym, ap, ◌∙◌}
-use mathlib.Core.List.{List}
+use mathlib.Core.List.{List, []}
 use Prim.Native.Nat.{ℕ}
 use lib.ListN.{length}
 use Rattle.std.specs.Prelude.{Result, Ok, Err}
@@ -11,7 +11,7 @@ use Rattle.field_slices.specs.Clearing.{cleared}
 use Rattle.model.specs.Lent.{Lent, room_of}
 use Rattle.model.specs.LentNow.{lent_now}
 use Rattle.building.specs.Holds.{records_in}
-use Rattle.finishing.proofs.ClearingLaws.{none_left}
+use Rattle.finishing.proofs.ClearingLaws.{none_left, cleared_sizes}
 use Rattle.readings.specs.Reading.{answer_of, left_by}
 use Rattle.readings.proofs.EndOfReading.{refused_stays, finished_ends, finished_leaves}
 use Rattle.readings.proofs.closing.close.Goals as goal
@@ -42,3 +42,26 @@ returns-clause-closes c =
     let ends =
     finished_ends l gathered _ a.standing f.result (g.ensures.gathers names) (ap length g.ensures.same.1) (ap length g.ensures.same.2) (f.ensures.ends names) (not_refused a.standing.halt c.in_default.not-Err) making s p in
     (c.finished_by.ensures ∙ ends.0, ap (λ (k : ℕ). after (cleared 0 k names)) (finished_leaves f.result _ c.finished_by.ensures) ∙ ends.1)
+
+pub returns-in-Err-clause-lengths : goal.returns-in-Err-clause-lengths
+returns-in-Err-clause-lengths c =
+    let a = c.args in
+    let n = c.clear_records.new in
+    cleared_sizes [] _ c.no_records.result a.residues.now n.residues a.atoms.now n.atoms (c.clear_records.ensures.zeros [])
+
+pub returns-clause-lengths : goal.returns-clause-lengths
+returns-clause-lengths c =
+    let same = c.gather.ensures.same in
+    let g = (c.gather.ensures.gathers []).lengths in
+    let f = c.finish_model-finish.ensures.lengths in (
+      f.0 ∙ g.residue_keys,
+      f.1 ∙ g.residue_names,
+      f.2 ∙ ap length same.1,
+      f.3 ∙ g.residue_marks,
+      f.4 ∙ ap length same.2,
+      f.5 ∙ g.atom_keys,
+      f.6 ∙ g.atom_names,
+      f.7 ∙ g.elements,
+      f.8 ∙ g.positions,
+      f.9 ∙ g.occupancies,
+    )
