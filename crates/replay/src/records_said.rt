@@ -72,7 +72,11 @@ fn say_chains(rt: &impl Print, names: &[u64], count: usize) -> io::Result<()> {
 
 fn say_residues(rt: &impl Print, records: Records<'_>, count: usize) -> io::Result<()> {
     for i in 0..count {
-        say_residue(rt, entry_at(records.residue_keys, i, 0), records.residue_at(i))?;
+        say_residue(
+            rt,
+            entry_at(records.residue_keys, i, 0),
+            records.residue_at(i),
+        )?;
     }
     Ok(())
 }

@@ -20,8 +20,7 @@ pub(crate) enum Word {
 
 // Chains, residues, atoms, rows, skipped, outdone, assumed.
 fn say_counts(rt: &impl Print, counts: Counts) -> io::Result<()> {
-    print!(
-        rt;
+    print!(rt;
         "read {} {} {} {} {} {} {}",
         counts.chains,
         counts.residues,
@@ -35,7 +34,12 @@ fn say_counts(rt: &impl Print, counts: Counts) -> io::Result<()> {
 
 fn say_refusal(rt: &impl Print, why: Refusal) -> io::Result<()> {
     let reason = why.reason;
-    print!(rt; "refused {} line {} detail {}", reason.number(), why.line, reason.detail())
+    print!(rt;
+        "refused {} line {} detail {}",
+        reason.number(),
+        why.line,
+        reason.detail()
+    )
 }
 
 fn say_answer(rt: &impl Print, answer: Result<Counts, Refusal>) -> io::Result<()> {
@@ -89,7 +93,11 @@ fn say_word(rt: &impl Print, reading: Reading, word: Word) -> io::Result<()> {
     }
 }
 
-pub(crate) fn say_sample(rt: &impl Print, name: &[u8], answer: Result<Counts, Refusal>) -> io::Result<()> {
+pub(crate) fn say_sample(
+    rt: &impl Print,
+    name: &[u8],
+    answer: Result<Counts, Refusal>,
+) -> io::Result<()> {
     say(rt, name)?;
     say(rt, b": ")?;
     say_answer(rt, answer)

@@ -27,7 +27,11 @@ fn atoms_are_zero(atoms: &AtomsMut<'_>, from: usize) -> bool {
     words_are_zero(atoms.keys, from)
         && words_are_zero(atoms.names, from)
         && bytes_are_zero(atoms.elements, from)
-        && atoms.positions.iter().skip(from).all(|point| point.iter().all(|x| is_zero(*x)))
+        && atoms
+            .positions
+            .iter()
+            .skip(from)
+            .all(|point| point.iter().all(|x| is_zero(*x)))
         && atoms.occupancies.iter().skip(from).all(|x| is_zero(*x))
 }
 

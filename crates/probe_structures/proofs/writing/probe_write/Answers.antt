@@ -1,5 +1,5 @@
 -- The numbers told are those of the answer, which is what the writing says.
-use Rattle.std.proofs.Common.{◌∙◌, ap}
+use Rattle.std.proofs.Common.{ℕ, ◌∙◌, ap}
 use Rattle.std.proofs.lemmas.List.Edits.{sets}
 use Rattle.std.specs.Prelude.{Result}
 use Rattle.refusals.specs.declared.reasons.Reason.{Reason}
