@@ -8,7 +8,7 @@ use Prim.Native.Nat.{ℕ, suc, ◌+◌, ◌^◌, ◌≤◌, ◌<◌}
 use native.Mathlib.Omega.{arith}
 use lib.Dec.{eqb}
 use lib.ListN.{length, length-append}
-use Rattle.std.specs.Prelude.{Some}
+use Rattle.std.specs.Prelude.{Option, None, Some}
 use Rattle.refusals.specs.Details.{column_number, axis_number, quantity_number, label_number, kind_number}
 use Rattle.refusals.specs.Reasons.{number_of, detail_of}
 use Rattle.refusals.specs.declared.details.Axis.{Axis}
@@ -26,6 +26,7 @@ use Rattle.refusals.specs.declared.reasons.Reason.TheVariants.{TextTooLong, Outs
 use Rattle.refusals.specs.declared.reasons.Refusal.{Refusal}
 use Rattle.ascii.specs.Bytes.{first}
 use Rattle.rows.specs.declared.settings.Settings.{Settings}
+use Rattle.lines.specs.declared.domain.Outside.{Outside}
 use Rattle.lines.specs.Domain.{is_allowed, line_after, outside_from}
 use Rattle.lines.specs.Lines.{lines_of}
 use Rattle.lines.proofs.LinesFitTheText.{lines_fit}
@@ -47,6 +48,14 @@ abbrev Small : Refusal → Type 0
 Small why = (why.line < 2 ^ 32) × (detail_of why.reason < 2 ^ 32)
 
 -- ---- 2: a byte of the text, at most one line further for each before it
+abbrev line_in : Option Outside → ℕ
+line_in None = 0
+line_in (Some o) = o.line
+
+abbrev byte_in : Option Outside → ℕ
+byte_in None = 0
+byte_in (Some o) = o.byte
+
 outside_within : (from line byte : ℕ) (text : List ℕ) → outside_from from text ≡ Some (record { line = line; byte = byte }) → All (λ b. b < 256) text → (line ≤ from + length text) × (byte < 256)
 unfolding outside_from
 outside_within from line byte [] e h = let z : ◌≡◌ {A = ℕ} 0 1 = cc in absurd (omega arith)
@@ -61,8 +70,8 @@ outside_within from line byte (b ∷ bs) e h = go (is_allowed b (first bs)) e (o
         → (line ≤ from + suc (length bs)) × (byte < 256)
     go true e later = let r = later e h.1 in (omega (arith, after (eqb b 10)), r.1)
     go false e later =
-        let line-is : from ≡ line = cc in
-        let byte-is : b ≡ byte = cc in
+        let line-is : from ≡ line = ap line_in e in
+        let byte-is : b ≡ byte = ap byte_in e in
         (omega arith, subst (λ (n : ℕ). n < 256) byte-is h.0)
 
 -- ---- 3 to 10: what is named is one of a few
