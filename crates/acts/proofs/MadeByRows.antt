@@ -2,11 +2,11 @@
 use Prim.{tt}
 use mathlib.Core.Path.{◌≡◌, refl, sym, ap, ◌∙◌, subst}
 use mathlib.Core.List.{List, [], ◌∷◌, ◌++◌}
+use Rattle.std.specs.Prelude.{Option, Some, None}
+use Rattle.refusals.specs.declared.details.RecordKind.{RecordKind}
 use Rattle.model.specs.Fold.{State, step, run}
 use Rattle.model.specs.Room.{Fits, lacking}
 use Rattle.model.specs.Taken.{Taken, skipped, site}
-use Rattle.model.specs.declared.room.Lack.{Lack}
-use Rattle.model.specs.declared.room.Lack.TheVariants.{Nothing, Of}
 use Rattle.model.specs.declared.room.Room.{Room}
 use Rattle.model.proofs.RoomLaws.{none_fits, fits_none, fitted_all}
 use Rattle.acts.specs.declared.act.Act.{Act}
@@ -36,9 +36,9 @@ module _ (room : Room) where
       by_act_lem Skip e = let q : step st skipped ≡ s = cc in record { goes = tt; row = q; fits = λ f. subst (Fits room) q (none_fits room st skipped f refl) }
       by_act_lem (Keep x) e = go (lacking room st (site x)) refl e
         where
-          go : (n : Lack) → lacking room st (site x) ≡ n → within a.line n (going (step st (site x))) ≡ going s → ByRow (Keep x) st s
-          go Nothing n e = let q : step st (site x) ≡ s = cc in record { goes = tt; row = q; fits = λ f. subst (Fits room) q (none_fits room st (site x) f n) }
-          go (Of lack) n e = going_not (sym e)
+          go : (n : Option RecordKind) → lacking room st (site x) ≡ n → within a.line n (going (step st (site x))) ≡ going s → ByRow (Keep x) st s
+          go None n e = let q : step st (site x) ≡ s = cc in record { goes = tt; row = q; fits = λ f. subst (Fits room) q (none_fits room st (site x) f n) }
+          go (Some lack) n e = going_not (sym e)
       by_act_lem (Refuse why) e = going_not (sym e)
 
   pub done_goes : (st : State) (a : Asked) (s : State) → done room st a ≡ going s → GoesOn a.act

@@ -2,13 +2,13 @@
 use mathlib.Core.Path.{◌≡◌, refl, sym, ap, ◌∙◌, subst}
 use mathlib.Core.Logic.{◌↔◌}
 use mathlib.Core.List.{List, [], ◌∷◌, ◌++◌}
+use Rattle.std.specs.Prelude.{Option, Some, None}
+use Rattle.refusals.specs.declared.details.RecordKind.{RecordKind}
 use Rattle.refusals.specs.declared.reasons.Refusal.{Refusal}
 use Rattle.rows.specs.declared.rules.Site.{Site}
 use Rattle.model.specs.Fold.{State, start, step}
 use Rattle.model.specs.Room.{lacking}
 use Rattle.model.specs.Taken.{site}
-use Rattle.model.specs.declared.room.Lack.{Lack}
-use Rattle.model.specs.declared.room.Lack.TheVariants.{Nothing, Of}
 use Rattle.model.specs.declared.room.Room.{Room}
 use Rattle.acts.specs.declared.act.Act.{Act}
 use Rattle.acts.specs.declared.act.Act.TheVariants.{Pass, Skip, Keep, Refuse}
@@ -21,7 +21,7 @@ use Rattle.acts.proofs.MadeOn.{going_not, onward, made_on}
 module _ (room : Room) (st : State) (a : Asked) where
   earned_halts : (why : Refusal) → ActEarns room st a why → done room st a ≡ halted why
   earned_halts why (refuses y e) = ap (done_at room st a.line) e
-  earned_halts why (lacks_room s kind e l) = ap (done_at room st a.line) e ∙ ap (λ (n : Lack). within a.line n (going (step st (site s)))) l
+  earned_halts why (lacks_room s kind e l) = ap (done_at room st a.line) e ∙ ap (λ (n : Option RecordKind). within a.line n (going (step st (site s)))) l
 
   halts_earned : (why : Refusal) → done room st a ≡ halted why → ActEarns room st a why
   halts_earned why e = by_act_lem a.act refl e
@@ -29,9 +29,9 @@ module _ (room : Room) (st : State) (a : Asked) where
       same : {other : Refusal} → halted other ≡ halted why → ActEarns room st a other → ActEarns room st a why
       same {other} e h = let q : other ≡ why = cc in subst (ActEarns room st a) q h
 
-      by_room : (s : Site) → a.act ≡ Keep s → (n : Lack) → lacking room st (site s) ≡ n → within a.line n (going (step st (site s))) ≡ halted why → ActEarns room st a why
-      by_room s k Nothing l e = going_not e
-      by_room s k (Of kind) l e = same e (lacks_room s kind k l)
+      by_room : (s : Site) → a.act ≡ Keep s → (n : Option RecordKind) → lacking room st (site s) ≡ n → within a.line n (going (step st (site s))) ≡ halted why → ActEarns room st a why
+      by_room s k None l e = going_not e
+      by_room s k (Some kind) l e = same e (lacks_room s kind k l)
 
       by_act_lem : (act : Act) → a.act ≡ act → done_at room st a.line act ≡ halted why → ActEarns room st a why
       by_act_lem Pass k e = going_not e

@@ -2,11 +2,11 @@
 use Prim.{Unit, tt}
 use Prim.Native.Nat.{ℕ, suc, ◌≤◌}
 use native.Mathlib.Omega.{arith}
+use Rattle.std.specs.Prelude.{Option, Some, None}
+use Rattle.refusals.specs.declared.details.RecordKind.{RecordKind}
 use Rattle.model.specs.Fold.{State, step}
 use Rattle.model.specs.Room.{lacking}
 use Rattle.model.specs.Taken.{site}
-use Rattle.model.specs.declared.room.Lack.{Lack}
-use Rattle.model.specs.declared.room.Lack.TheVariants.{Nothing, Of}
 use Rattle.model.specs.declared.room.Room.{Room}
 use Rattle.acts.specs.declared.act.Act.{Act}
 use Rattle.acts.specs.declared.act.Act.TheVariants.{Pass, Skip, Keep, Refuse}
@@ -23,7 +23,7 @@ rows_grow room st number Pass = omega arith
 rows_grow room st number Skip = omega arith
 rows_grow room st number (Keep s) = go (lacking room st (site s))
   where
-    go : (lack : Lack) → RowsWithin (suc st.rows) (within number lack (going (step st (site s))))
-    go Nothing = omega arith
-    go (Of kind) = tt
+    go : (lack : Option RecordKind) → RowsWithin (suc st.rows) (within number lack (going (step st (site s))))
+    go None = omega arith
+    go (Some kind) = tt
 rows_grow room st number (Refuse why) = tt

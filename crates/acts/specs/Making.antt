@@ -1,13 +1,12 @@
 -- What acts make of the model, one after the other, in a room: up to the first that refuses or lacks the room.
-use Rattle.std.specs.Prelude.{List, [], ◌∷◌, ℕ}
+use Rattle.std.specs.Prelude.{List, [], ◌∷◌, ℕ, Option, Some, None}
 use Rattle.refusals.specs.Reasons.{at}
+use Rattle.refusals.specs.declared.details.RecordKind.{RecordKind}
 use Rattle.refusals.specs.declared.reasons.Reason.TheVariants.{NoRoom}
 use Rattle.refusals.specs.declared.reasons.Refusal.{Refusal}
 use Rattle.model.specs.Fold.{State, step}
 use Rattle.model.specs.Room.{lacking}
 use Rattle.model.specs.Taken.{skipped, site}
-use Rattle.model.specs.declared.room.Lack.{Lack}
-use Rattle.model.specs.declared.room.Lack.TheVariants.{Nothing, Of}
 use Rattle.model.specs.declared.room.Room.{Room}
 use Rattle.acts.specs.declared.act.Act.{Act}
 use Rattle.acts.specs.declared.act.Act.TheVariants.{Pass, Skip, Keep, Refuse}
@@ -19,9 +18,9 @@ pub data Making : Type 0 where
 
 -- ---- one act
 
-abbrev pub within : ℕ → Lack → Making → Making
-within number Nothing others = others
-within number (Of kind) others = halted (at number (NoRoom kind))
+abbrev pub within : ℕ → Option RecordKind → Making → Making
+within number None others = others
+within number (Some kind) others = halted (at number (NoRoom kind))
 
 abbrev pub done_at : Room → State → ℕ → Act → Making
 done_at room st number Pass = going st

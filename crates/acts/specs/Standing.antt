@@ -1,9 +1,11 @@
 -- How the slices and the counts stand for what the acts have made, and what is promised of one act. Of slices that hold a model all is said; of others,
 -- which no reading has, only that no slice is longer or shorter afterwards.
-use Prim.{Unit}
-use Rattle.std.specs.Prelude.{◌≡◌, ℕ, suc, ◌^◌, ◌≤◌, ◌<◌}
+use Prim.{Unit, tt}
+use Rattle.std.specs.Prelude.{◌≡◌, ℕ, suc, ◌^◌, ◌≤◌, ◌<◌, Result, Ok, Err}
 use Rattle.refusals.specs.Reasons as refusals
+use Rattle.refusals.specs.declared.details.RecordKind.{RecordKind}
 use Rattle.refusals.specs.declared.reasons.Reason.TheVariants as reason
+use Rattle.refusals.specs.declared.reasons.Refusal.{Refusal}
 use Rattle.rows.specs.declared.rules.Site.{Site}
 use Rattle.model.specs.Fold.{State}
 use Rattle.model.specs.Proper.{Finite}
@@ -12,32 +14,28 @@ use Rattle.building.specs.Gaps.{HoldsApart}
 use Rattle.building.specs.Holds.{Records, Within, SameLengths}
 use Rattle.building.specs.Sites.{with_skipped}
 use Rattle.building.specs.declared.held.Held.{Held}
-use Rattle.building.specs.declared.sites.Put.{Put}
-use Rattle.building.specs.declared.sites.Put.TheVariants.{NoRoom, Done}
 use Rattle.acts.specs.declared.act.Act.{Act}
 use Rattle.acts.specs.declared.act.Act.TheVariants.{Pass, Skip, Keep, Refuse}
-use Rattle.acts.specs.declared.doing.Halt.{Halt}
-use Rattle.acts.specs.declared.doing.Halt.TheVariants.{Going, Refused}
 use Rattle.acts.specs.declared.doing.Standing.{Standing}
 use Rattle.acts.specs.Acts.{Asked}
 use Rattle.acts.specs.Making.{Making, going, halted, done}
 
 abbrev pub Stands : Room → Records → Standing → Making → Type 0
-Stands room r s (going st) = (s.halt ≡ Going) × HoldsApart r room s.held st
-Stands room r s (halted why) = s.halt ≡ Refused why
+Stands room r s (going st) = (s.halt ≡ Ok tt) × HoldsApart r room s.held st
+Stands room r s (halted why) = s.halt ≡ Err why
 
 -- ---- one act
 
-abbrev pub standing_by : ℕ → Held → Put → Standing
-standing_by number held (NoRoom kind) = record { held = held; halt = Refused (refusals.at number (reason.NoRoom kind)) }
-standing_by number held (Done more) = record { held = more; halt = Going }
+abbrev pub standing_by : ℕ → Held → Result Held RecordKind → Standing
+standing_by number held (Err kind) = record { held = held; halt = Err (refusals.at number (reason.NoRoom kind)) }
+standing_by number held (Ok more) = record { held = more; halt = Ok tt }
 
 -- before a site is put in
 abbrev pub passed_at : ℕ → Held → Act → Standing
-passed_at number held Pass = record { held = held; halt = Going }
-passed_at number held Skip = record { held = with_skipped held; halt = Going }
-passed_at number held (Keep s) = record { held = held; halt = Going }
-passed_at number held (Refuse why) = record { held = held; halt = Refused (refusals.at number why) }
+passed_at number held Pass = record { held = held; halt = Ok tt }
+passed_at number held Skip = record { held = with_skipped held; halt = Ok tt }
+passed_at number held (Keep s) = record { held = held; halt = Ok tt }
+passed_at number held (Refuse why) = record { held = held; halt = Err (refusals.at number why) }
 
 -- a site has a finite occupancy
 abbrev pub FiniteIn : Act → Type 0
@@ -58,9 +56,9 @@ pub record Keeps (r : Records) (room : Room) (number : ℕ) (held : Held) (site 
 -- ---- all acts of a text
 
 -- a refusal before all of them stays
-abbrev pub ahead : Halt → Making → Making
-ahead Going others = others
-ahead (Refused why) others = halted why
+abbrev pub ahead : Result (Unit {0}) Refusal → Making → Making
+ahead (Ok u) others = others
+ahead (Err why) others = halted why
 
 pub record Passes (r : Records) (room : Room) (target : Making) (s : Standing) (after : Records) : Type 0 where
   pub lengths : SameLengths r after

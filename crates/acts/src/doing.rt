@@ -1,81 +1,56 @@
 // What an act does: step 8 over the lent slices for a site that is kept; a count for a row that is skipped, and a refusal, which need no slice.
-ghost use Rattle.std.specs.Prelude.{◌≡◌, List, ℕ, take};
-ghost use Rattle.building.specs.Holds.{records_by};
-ghost use Rattle.building.specs.Sites.{with_place};
+ghost use Rattle.std.specs.Prelude.{◌≡◌, List, ℕ, take, set};
+ghost use Rattle.model.specs.LentNow.{SameAtoms};
+ghost use Rattle.building.specs.Holds.{records_now, SameLengths};
+ghost use Rattle.building.specs.Kinds.{KeepsResidues};
 ghost use Rattle.building.specs.Slices.{ChainFound};
 ghost use Rattle.acts.specs.Standing.{standing_by, passed_at, Keeps};
 
 use crate::act::Act;
-use building::{Held, Put, put_site, skip_row};
-use model::Room;
-use refusals::{Reason, Refusal};
+use building::{Held, put_site, skip_row};
+use model::{AtomsMut, ResiduesMut, Room};
+use refusals::{Reason, RecordKind, Refusal};
 use rows::Site;
 
-#[derive(Clone, Copy)]
-pub enum Halt {
-    Going,
-    Refused(Refusal),
-}
-
-// Where a reading stands: what the slices hold, and whether a refusal has ended it.
+// Where a reading stands: what the slices hold, and the refusal that has ended it, if one has.
 #[derive(Clone, Copy)]
 pub struct Standing {
     pub held: Held,
-    pub halt: Halt,
+    pub halt: Result<(), Refusal>,
 }
 
-fn standing_by(number: usize, held: Held, put: Put) -> Standing
+fn standing_by(number: usize, held: Held, put: Result<Held, RecordKind>) -> Standing
     ensures { result ≡ standing_by number held put }
 {
     match put {
-        Put::NoRoom(kind) => Standing {
+        Ok(held) => Standing { held, halt: Ok(()) },
+        Err(kind) => Standing {
             held,
-            halt: Halt::Refused(Refusal {
+            halt: Err(Refusal {
                 line: number,
                 reason: Reason::NoRoom(kind),
             }),
-        },
-        Put::Done(more) => Standing {
-            held: more,
-            halt: Halt::Going,
         },
     }
 }
 
 // The site that the line with this number keeps, put in at its chain's place.
 pub fn keep_site(
-    residue_keys: &mut [u64],
-    residue_names: &mut [u64],
-    residue_marks: &mut [u8],
-    atom_keys: &mut [u64],
-    atom_names: &mut [u64],
-    elements: &mut [u8],
-    positions: &mut [[f64; 3]],
-    occupancies: &mut [f64],
+    residues: &mut ResiduesMut<'_>,
+    atoms: &mut AtomsMut<'_>,
     room: Room,
     number: usize,
     held: Held,
     place: usize,
     site: Site,
 ) -> Standing
-    ensures { (chains : List ℕ) → ChainFound (take held.counts.chains chains) site.chain place →
-        let l = records_by (with_place chains place site.chain) residue_keys residue_names residue_marks atom_keys atom_names elements positions occupancies in
-        Keeps l.entry room number held site result l.exit }
+    ensures same_residues { KeepsResidues residues.old residues.new }
+    ensures same_atoms { SameAtoms atoms.old atoms.new }
+    ensures lengths { (chains : List ℕ) → SameLengths (records_now chains residues.old atoms.old) (records_now chains residues.new atoms.new) }
+    ensures keeps { (chains : List ℕ) → ChainFound (take held.counts.chains chains) site.chain place →
+        Keeps (records_now chains residues.old atoms.old) room number held site result (records_now (set chains place site.chain) residues.new atoms.new) }
 {
-    let put = put_site(
-        residue_keys,
-        residue_names,
-        residue_marks,
-        atom_keys,
-        atom_names,
-        elements,
-        positions,
-        occupancies,
-        room,
-        held,
-        place,
-        site,
-    );
+    let put = put_site(residues, atoms, room, held, place, site);
     standing_by(number, held, put)
 }
 
@@ -84,21 +59,14 @@ pub fn pass_act(number: usize, held: Held, act: Act) -> Standing
     ensures { result ≡ passed_at number held act }
 {
     match act {
-        Act::Pass => Standing {
-            held,
-            halt: Halt::Going,
-        },
+        Act::Pass | Act::Keep(_) => Standing { held, halt: Ok(()) },
         Act::Skip => Standing {
             held: skip_row(held),
-            halt: Halt::Going,
-        },
-        Act::Keep(_) => Standing {
-            held,
-            halt: Halt::Going,
+            halt: Ok(()),
         },
         Act::Refuse(why) => Standing {
             held,
-            halt: Halt::Refused(Refusal {
+            halt: Err(Refusal {
                 line: number,
                 reason: why,
             }),

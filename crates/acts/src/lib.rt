@@ -5,4 +5,4 @@ mod act;
 mod doing;
 
 pub use act::Act;
-pub use doing::{Halt, Standing, keep_site, pass_act};
+pub use doing::{Standing, keep_site, pass_act};

@@ -1,18 +1,19 @@
--- A turn of a loop over digits is one clause of its definition; a run fits its text; capping as one goes is capping at the end.
+-- A run of digits is the library's run of bytes that pass a test, and fits its text; capping as one goes is capping at the end.
 use mathlib.Core.Path.{◌≡◌, refl, sym, ap, ◌∙◌, subst}
 use mathlib.Core.List.{List, [], ◌∷◌}
 use mathlib.Core.Bool.{Bool, true, false, not, ◌&&◌, cond}
-use Prim.Native.Nat.{ℕ, suc, ◌+◌, ◌-◌, ◌*◌, ◌^◌, ◌≤◌, ◌<◌}
+use Prim.Native.Nat.{ℕ, suc, ◌+◌, ◌-◌, ◌*◌, ◌^◌, ◌≤◌, ◌<◌, min}
 use native.Mathlib.Nat.{le_trans, pow-suc, add-zero, add-suc, suc-add, le_refl, le_of_lt, le_antisymm}
 use native.Mathlib.Numerals.{add-one}
 use native.Mathlib.Omega.{arith}
-use lib.Dec.{T, leb, ltb, leb→le, ltb→lt, nltb→le, lit<}
+use lib.Dec.{T, eqb, leb, ltb, leb→le, ltb→lt, nltb→le, lit<, eqb-suc-suc, eqb-zero-suc}
 use lib.ListN.{length, get_or, drop}
 use lib.Seq.{drop-cons, drop-length}
 use borrow.Author.Tests.{le-ltb}
+use Rattle.std.specs.List.{list_all, prefix_len}
 use Rattle.ascii.specs.Digits.{is_digit, digit_of, digit_run, number_from, capped}
 
--- ---- how many digits
+-- ---- how many digits, from index i on
 run_step : (s : List ℕ) (i : ℕ) → i < length s → digit_run (drop i s) ≡ cond (is_digit (get_or s i 0)) (suc (digit_run (drop (i + 1) s))) 0
 unfolding digit_run
 run_step s i h = rw (add-one, drop-cons s i 0)
@@ -26,6 +27,25 @@ run_stop s i h e = run_step s i h ∙ ap (λ (t : Bool). cond t (suc (digit_run 
 
 pub run_more : (s : List ℕ) (i : ℕ) → i < length s → is_digit (get_or s i 0) ≡ true → digit_run (drop i s) ≡ suc (digit_run (drop (i + 1) s))
 run_more s i h e = run_step s i h ∙ ap (λ (t : Bool). cond t (suc (digit_run (drop (i + 1) s))) 0) e
+
+-- all of it, in the library's words
+pub run_passed : (s : List ℕ) → prefix_len is_digit s ≡ digit_run s
+unfolding digit_run
+run_passed [] = refl
+run_passed (b ∷ s) = ap (λ (k : ℕ). cond (is_digit b) k 0) (one (prefix_len is_digit s) ∙ ap suc (run_passed s))
+  where
+    one : (k : ℕ) → 1 + k ≡ suc k
+    one k = omega arith
+
+-- every byte is a digit where the run is the whole text
+pub all_passed : (s : List ℕ) → list_all is_digit s ≡ eqb (digit_run s) (length s)
+unfolding digit_run
+all_passed [] = refl
+all_passed (b ∷ s) = go (is_digit b) (all_passed s)
+  where
+    go : (t : Bool) → list_all is_digit s ≡ eqb (digit_run s) (length s) → (t && list_all is_digit s) ≡ eqb (cond t (suc (digit_run s)) 0) (suc (length s))
+    go true e = e ∙ sym (eqb-suc-suc (digit_run s) (length s))
+    go false e = sym (eqb-zero-suc (length s))
 
 pub run_fits : (s : List ℕ) → digit_run s ≤ length s
 unfolding digit_run
@@ -88,6 +108,15 @@ capped_small n h = go (ltb n (10 ^ 18)) (nltb→le n (10 ^ 18))
     go : (t : Bool) → (T (not t) → 10 ^ 18 ≤ n) → cond t n (10 ^ 18) ≡ n
     go true k = refl
     go false k = le_antisymm (k tt) h
+
+-- the lesser of the two, as the library says it
+pub capped_least : (n : ℕ) → min n (10 ^ 18) ≡ capped n
+unfolding capped
+capped_least n = go (ltb n (10 ^ 18)) (ltb→lt n (10 ^ 18)) (nltb→le n (10 ^ 18))
+  where
+    go : (t : Bool) → (T t → n < 10 ^ 18) → (T (not t) → 10 ^ 18 ≤ n) → min n (10 ^ 18) ≡ cond t n (10 ^ 18)
+    go true h k = omega (arith, h tt)
+    go false h k = omega (arith, k tt)
 
 pub capped_fits : (n : ℕ) → capped n ≤ 10 ^ 18
 unfolding capped

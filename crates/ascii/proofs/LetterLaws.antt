@@ -1,41 +1,40 @@
--- A turn of the loop that compares two texts is one clause of `eq_ignore_case`, by what its test said.
+-- The library makes the letters of both texts small and compares them; byte by byte that is `eq_ignore_case`.
 use mathlib.Core.Path.{◌≡◌, refl, ap, ◌∙◌}
-use mathlib.Core.List.{List, [], ◌∷◌}
-use mathlib.Core.Bool.{Bool, true, false, ◌&&◌, and-false}
-use Prim.Native.Nat.{ℕ, suc, ◌+◌, ◌<◌}
-use native.Mathlib.Numerals.{add-one}
-use lib.Dec.{eqb}
-use lib.ListN.{length, get_or, drop}
-use lib.Seq.{drop-cons, drop-length}
-use borrow.Author.Tests.{eq-eqb, ne_eqb}
+use mathlib.Core.List.{List, [], ◌∷◌, map}
+use mathlib.Core.Bool.{Bool, true, false, not, ◌&&◌, cond}
+use Prim.Native.Nat.{ℕ, ◌+◌, ◌≤◌, ◌<◌}
+use native.Mathlib.Omega.{arith}
+use lib.Dec.{T, eqb, leb, leb→le, nleb→lt}
+use borrow.Author.Rules.{rules}
+use borrow.Author.Tests.{lt-ltb, le-ltb}
+use Rattle.std.specs.Bool.{Decides}
+use Rattle.std.specs.Char.{to_ascii_lowercase}
+use Rattle.std.specs.Prelude.{IsTrue, ◌↔◌}
+use Rattle.std.specs.Str.{bytes_eq}
+use Rattle.std.proofs.lemmas.Slice.Eq.{bytes_eq-Decides}
 use Rattle.ascii.specs.Letters.{lowercase, eq_ignore_case}
 
-module _ (s t : List ℕ) (i : ℕ) where
-  abbrev here : Bool
-  here = eqb (lowercase (get_or s i 0)) (lowercase (get_or t i 0))
+lower_same : (b : ℕ) → to_ascii_lowercase b ≡ lowercase b
+lower_same b = go (leb 65 b) (leb b 90) (leb→le 65 b) (nleb→lt 65 b) (leb→le b 90) (nleb→lt b 90)
+  where
+    go : (t u : Bool) → (T t → 65 ≤ b) → (T (not t) → b < 65) → (T u → b ≤ 90) → (T (not u) → 90 < b) → to_ascii_lowercase b ≡ cond (t && u) (b + 32) b
+    go true true h h' k k' = let x : 65 ≤ b = h tt in let y : b < 91 = omega (arith, k tt) in simp (le-ltb b 65 x, lt-ltb b 91 y)
+    go true false h h' k k' = let x : 65 ≤ b = h tt in let y : 91 ≤ b = omega (arith, k' tt) in simp (le-ltb b 65 x, le-ltb b 91 y)
+    go false u h h' k k' = simp (lt-ltb b 65 (h' tt))
 
-  abbrev rest : Bool
-  rest = eq_ignore_case (drop (i + 1) s) (drop (i + 1) t)
+lowers_same : (s : List ℕ) → map to_ascii_lowercase s ≡ map lowercase s
+lowers_same [] = refl
+lowers_same (b ∷ s) = rw (lower_same b, lowers_same s)
 
-  same_step : i < length s → i < length t → eq_ignore_case (drop i s) (drop i t) ≡ (here && rest)
-  unfolding eq_ignore_case
-  same_step h k = rw (add-one, drop-cons s i 0, drop-cons t i 0)
-
-  pub same_stop : i < length s → i < length t → (lowercase (get_or s i 0) ≡ lowercase (get_or t i 0) → ⊥) → eq_ignore_case (drop i s) (drop i t) ≡ false
-  same_stop h k n = same_step h k ∙ ap (λ (b : Bool). b && rest) (ne_eqb (lowercase (get_or s i 0)) (lowercase (get_or t i 0)) n)
-
-  pub same_more : i < length s → i < length t → lowercase (get_or s i 0) ≡ lowercase (get_or t i 0) → eq_ignore_case (drop i s) (drop i t) ≡ rest
-  same_more h k e = same_step h k ∙ ap (λ (b : Bool). b && rest) (eq-eqb (lowercase (get_or s i 0)) (lowercase (get_or t i 0)) e)
-
-  pub same_end : i ≡ length s → i ≡ length t → eq_ignore_case (drop i s) (drop i t) ≡ true
-  unfolding eq_ignore_case
-  same_end e f =
-      ap (λ (k : ℕ). eq_ignore_case (drop k s) (drop i t)) e ∙ ap (λ (l : List ℕ). eq_ignore_case l (drop i t)) (drop-length s)
-      ∙ ap (λ (k : ℕ). eq_ignore_case [] (drop k t)) f ∙ ap (λ (l : List ℕ). eq_ignore_case [] l) (drop-length t)
-
-pub same_length : (s t : List ℕ) → (length s ≡ length t → ⊥) → eq_ignore_case s t ≡ false
+alike_lowers : (s t : List ℕ) → bytes_eq (map lowercase s) (map lowercase t) ≡ eq_ignore_case s t
 unfolding eq_ignore_case
-same_length [] [] h = absurd (h refl)
-same_length [] (c ∷ t) h = refl
-same_length (b ∷ s) [] h = refl
-same_length (b ∷ s) (c ∷ t) h = ap (λ (r : Bool). eqb (lowercase b) (lowercase c) && r) (same_length s t (λ e. h (ap suc e))) ∙ and-false (eqb (lowercase b) (lowercase c))
+alike_lowers [] [] = refl
+alike_lowers [] (c ∷ t) = refl
+alike_lowers (b ∷ s) [] = refl
+alike_lowers (b ∷ s) (c ∷ t) = ap (λ (r : Bool). eqb (lowercase b) (lowercase c) && r) (alike_lowers s t)
+
+decided : (xs ys : List ℕ) (r : Bool) → Decides r (xs ≡ ys) → r ≡ bytes_eq xs ys
+decided xs ys r h = search (rules, bytes_eq-Decides)
+
+pub alike_is : (s t : List ℕ) (r : Bool) → (IsTrue r ↔ (map to_ascii_lowercase s ≡ map to_ascii_lowercase t)) → r ≡ eq_ignore_case s t
+alike_is s t r h = decided (map lowercase s) (map lowercase t) r (rw (lowers_same s, lowers_same t) at h) ∙ alike_lowers s t

@@ -1,24 +1,26 @@
--- What becomes of a text and of the buffer, by whether the text fits. A copy that is one byte longer is one store more, behind those that were made.
+-- What becomes of a text and of the buffer, by whether the text fits. A text copied into the part where it goes is stored.
 use mathlib.Core.Path.{◌≡◌, refl, sym, ap, ◌∙◌}
 use mathlib.Core.List.{List, [], ◌∷◌, ◌++◌}
 use mathlib.Core.Bool.{Bool, true, false, not}
 use Prim.Native.Nat.{ℕ, suc, ◌+◌, ◌-◌, ◌≤◌, ◌<◌}
 use native.Mathlib.Nat.{add-zero, add-suc, suc-add, add_assoc, le_refl}
-use native.Mathlib.Numerals.{add-one}
 use native.Mathlib.Omega.{arith}
 use lib.Dec.{T, leb, leb→le, nleb→lt}
-use lib.ListN.{length, get_or, take, set, length-append}
-use lib.Seq.{set_comm, sets, take-suc, take_all, length-take-le}
+use lib.ListN.{length, take, drop, set, length-append}
+use lib.Seq.{set_comm, sets, take-length}
 use borrow.Author.Tests.{le-leb, lt-leb}
-use Rattle.ascii.specs.declared.output.Placed.TheVariants.{Next, NoRoom}
-use Rattle.ascii.specs.Output.{Stored, fits, placed_of, buffer_after}
+use borrow.Rule.Slice.PartMut.{put_mid}
+use Rattle.std.specs.Prelude.{Ok, Err}
+use Rattle.std.proofs.lemmas.Slice.{put_mid-paste}
+use Rattle.std.proofs.lemmas.List.Edits.{sets-eq}
+use Rattle.ascii.specs.Output.{Stored, fits, no_room, placed_of, buffer_after}
 
 module _ (buffer : List ℕ) (at : ℕ) (text : List ℕ) where
-  pub placed_fits : fits buffer at text ≡ true → placed_of buffer at text ≡ Next (at + length text)
+  pub placed_fits : fits buffer at text ≡ true → placed_of buffer at text ≡ Ok (at + length text)
   unfolding placed_of
   placed_fits e = simp e
 
-  pub placed_not : fits buffer at text ≡ false → placed_of buffer at text ≡ NoRoom (length text)
+  pub placed_not : fits buffer at text ≡ false → placed_of buffer at text ≡ Err (no_room (length text))
   unfolding placed_of
   placed_not e = simp e
 
@@ -31,11 +33,11 @@ module _ (buffer : List ℕ) (at : ℕ) (text : List ℕ) where
   after_not e = simp e
 
   -- what a function that puts a text has done, where there was room and where there was none
-  pub put_whole : {after : List ℕ} {next : ℕ} → fits buffer at text ≡ true → Stored buffer at text after next → (Next next ≡ placed_of buffer at text) × (after ≡ buffer_after buffer at text)
-  put_whole e s = (ap Next s.place ∙ sym (placed_fits e), s.bytes ∙ sym (after_fits e))
+  pub put_whole : {after : List ℕ} {next : ℕ} → fits buffer at text ≡ true → Stored buffer at text after next → (Ok next ≡ placed_of buffer at text) × (after ≡ buffer_after buffer at text)
+  put_whole e s = (ap Ok s.place ∙ sym (placed_fits e), s.bytes ∙ sym (after_fits e))
 
-  pub put_nothing : {n : ℕ} → fits buffer at text ≡ false → n ≡ length text → (NoRoom n ≡ placed_of buffer at text) × (buffer ≡ buffer_after buffer at text)
-  put_nothing e h = (ap NoRoom h ∙ sym (placed_not e), sym (after_not e))
+  pub put_nothing : {n : ℕ} → fits buffer at text ≡ false → n ≡ length text → (Err (no_room n) ≡ placed_of buffer at text) × (buffer ≡ buffer_after buffer at text)
+  put_nothing e h = (ap (λ (k : ℕ). Err (no_room k)) h ∙ sym (placed_not e), sym (after_not e))
 
 -- the room that is left, asked without the sum
 pub room_left : (size at n : ℕ) → at ≤ size → leb n (size - at) ≡ leb (at + n) size
@@ -67,19 +69,19 @@ stored_append {d} {e} {f} {at} {i} {j} {s} {t} p q = record {
   place = q.place ∙ ap (λ (k : ℕ). k + length t) p.place ∙ add_assoc at (length s) (length t) ∙ ap (λ (k : ℕ). at + k) (sym (length-append s t));
 }
 
--- a byte behind a text is one store more, and so is a copy that is one byte longer
+-- a byte behind a text is one store more
 pub store_more : (d : List ℕ) (at : ℕ) (s : List ℕ) (b : ℕ) → set (sets d at s) (at + length s) b ≡ sets d at (s ++ b ∷ [])
 store_more d at s b = sets_append d at s (b ∷ [])
 
-module _ (d : List ℕ) (at : ℕ) (text : List ℕ) (i : ℕ) where
-  pub copy_more : i < length text → set (sets d at (take i text)) (at + i) (get_or text i 0) ≡ sets d at (take (i + 1) text)
-  copy_more h =
-      ap (λ (n : ℕ). set (sets d at (take i text)) (at + n) (get_or text i 0)) (sym (length-take-le i text (omega arith)))
-      ∙ store_more d at (take i text) (get_or text i 0)
-      ∙ ap (sets d at) (sym (take-suc text i 0 h) ∙ ap (λ (n : ℕ). take n text) (sym (add-one i)))
-
-  pub copy_end : length text ≤ i → sets d at (take i text) ≡ sets d at text
-  copy_end h = ap (sets d at) (take_all i text h)
+-- ---- a text copied into the part of the buffer where it goes
+pub copied : (d : List ℕ) (at : ℕ) (text part : List ℕ) → at + length text ≤ length d → part ≡ text
+    → Stored d at text (put_mid at (at + length text - at) d part) (at + length text)
+copied d at text part h e =
+    let long : length text ≡ at + length text - at = omega arith in
+    record {
+      bytes = put_mid-paste at (at + length text - at) d part text (length text) e long refl ∙ ap (λ (t : List ℕ). take at d ++ t ++ drop (at + length text) d) (take-length text) ∙ sym (sets-eq text d at h);
+      place = refl;
+    }
 
 -- ---- a run of bytes stored from the right
 

@@ -1,14 +1,12 @@
--- A turn of the loop that compares two texts is one clause of `starts_with`; two texts of one length are the same where one begins with the other.
-use mathlib.Core.Path.{◌≡◌, refl, ap, ◌∙◌}
+-- The library's comparisons are `starts_with` and `same_bytes`, byte by byte; the second is exactly equality.
+use mathlib.Core.Path.{◌≡◌, refl, sym, ap, ◌∙◌}
 use mathlib.Core.List.{List, [], ◌∷◌}
 use mathlib.Core.Bool.{Bool, true, false, ◌&&◌, and-false, false≢true}
-use Prim.Native.Nat.{ℕ, suc, ◌+◌, ◌≤◌, ◌<◌}
-use native.Mathlib.Numerals.{add-one}
-use native.Mathlib.Omega.{arith}
+use Prim.Native.Nat.{ℕ, suc}
 use lib.Dec.{eqb}
-use lib.ListN.{length, get_or, drop, drop_of_length-le}
-use lib.Seq.{drop-cons}
+use lib.ListN.{length, take}
 use borrow.Author.Tests.{eq-eqb, ne_eqb, eqb-true}
+use lib.Pointwise.{pointwise}
 use Rattle.ascii.specs.Words.{starts_with, same_bytes}
 
 -- ---- one text begins with another
@@ -17,43 +15,34 @@ unfolding starts_with
 starts_none [] = refl
 starts_none (b ∷ s) = refl
 
-pub starts_short : (s p : List ℕ) → length s < length p → starts_with s p ≡ false
+eqb_sym : (b c : ℕ) → eqb b c ≡ eqb c b
+eqb_sym b c = go (eqb b c) refl
+  where
+    go : (t : Bool) → eqb b c ≡ t → t ≡ eqb c b
+    go true e = sym (eq-eqb c b (sym (eqb-true b c e)))
+    go false e = sym (ne_eqb c b (λ h. false≢true (sym e ∙ eq-eqb b c (sym h))))
+
+-- the library's test, which compares the prefix with as much of the text
+pub starts_front : (s p : List ℕ) → pointwise eqb p (take (length p) s) ≡ starts_with s p
 unfolding starts_with
-starts_short s [] h = absurd (omega arith)
-starts_short [] (c ∷ p) h = refl
-starts_short (b ∷ s) (c ∷ p) h = ap (λ (t : Bool). eqb b c && t) (starts_short s p (omega arith)) ∙ and-false (eqb b c)
-
-module _ (s p : List ℕ) (i : ℕ) where
-  abbrev rest : Bool
-  rest = starts_with (drop (i + 1) s) (drop (i + 1) p)
-
-  starts_step : i < length s → i < length p → starts_with (drop i s) (drop i p) ≡ (eqb (get_or s i 0) (get_or p i 0) && rest)
-  unfolding starts_with
-  starts_step h k = rw (add-one, drop-cons s i 0, drop-cons p i 0)
-
-  pub starts_stop : i < length s → i < length p → (get_or s i 0 ≡ get_or p i 0 → ⊥) → starts_with (drop i s) (drop i p) ≡ false
-  starts_stop h k n = starts_step h k ∙ ap (λ (t : Bool). t && rest) (ne_eqb (get_or s i 0) (get_or p i 0) n)
-
-  pub starts_more : i < length s → i < length p → get_or s i 0 ≡ get_or p i 0 → starts_with (drop i s) (drop i p) ≡ rest
-  starts_more h k e = starts_step h k ∙ ap (λ (t : Bool). t && rest) (eq-eqb (get_or s i 0) (get_or p i 0) e)
-
-  pub starts_end : length p ≤ i → starts_with (drop i s) (drop i p) ≡ true
-  starts_end h = ap (starts_with (drop i s)) (drop_of_length-le p h) ∙ starts_none (drop i s)
+starts_front s [] = sym (starts_none s)
+starts_front [] (c ∷ p) = refl
+starts_front (b ∷ s) (c ∷ p) = rw (eqb_sym c b, starts_front s p)
 
 -- ---- two texts are the same
+pub same_pointwise : (s t : List ℕ) → pointwise eqb s t ≡ same_bytes s t
+unfolding same_bytes
+same_pointwise [] [] = refl
+same_pointwise [] (c ∷ t) = refl
+same_pointwise (b ∷ s) [] = refl
+same_pointwise (b ∷ s) (c ∷ t) = ap (λ (r : Bool). eqb b c && r) (same_pointwise s t)
+
 pub same_length : (s t : List ℕ) → (length s ≡ length t → ⊥) → same_bytes s t ≡ false
 unfolding same_bytes
 same_length [] [] h = absurd (h refl)
 same_length [] (c ∷ t) h = refl
 same_length (b ∷ s) [] h = refl
 same_length (b ∷ s) (c ∷ t) h = ap (λ (r : Bool). eqb b c && r) (same_length s t (λ e. h (ap suc e))) ∙ and-false (eqb b c)
-
-pub starts_same : (s t : List ℕ) → length s ≡ length t → starts_with s t ≡ same_bytes s t
-unfolding starts_with same_bytes
-starts_same [] [] e = refl
-starts_same [] (c ∷ t) e = absurd (omega arith)
-starts_same (b ∷ s) [] e = absurd (omega arith)
-starts_same (b ∷ s) (c ∷ t) e = ap (λ (r : Bool). eqb b c && r) (starts_same s t (omega arith))
 
 -- the test is exactly equality
 pub same_self : (s : List ℕ) → same_bytes s s ≡ true

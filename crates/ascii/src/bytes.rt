@@ -5,8 +5,5 @@ ghost use Rattle.std.specs.Prelude.{◌≡◌, get_or};
 pub fn byte_at(s: &[u8], i: usize) -> u8
     ensures { result ≡ get_or s.now i 0 }
 {
-    if i < s.len() {
-        return s[i];
-    }
-    0
+    s.get(i).copied().unwrap_or(0)
 }

@@ -11,6 +11,6 @@ mod words;
 pub use bytes::byte_at;
 pub use digits::{all_digits, count_digits, number_from};
 pub use letters::eq_ignore_ascii_case;
-pub use output::{Placed, fits_at, put_text};
+pub use output::{NoRoom, fits_at, put_text};
 pub use signs::after_sign;
 pub use words::{same_bytes, starts_with};

@@ -1,44 +1,29 @@
 // A text put at a place of a lent buffer: whole where it fits, and else not a byte of it.
-ghost use Rattle.std.specs.Prelude.{◌≡◌, ◌+◌, ◌≤◌, leb, length};
-ghost use Rattle.ascii.specs.Output.{Stored, placed_of, buffer_after};
+ghost use Rattle.std.specs.Prelude.{◌≡◌, ◌+◌, leb};
+ghost use Rattle.ascii.specs.Output.{placed_of, buffer_after};
 
+// Why a text was not put: it needs so many bytes. The buffer is as it was.
 #[derive(Clone, Copy)]
-pub enum Placed {
-    // The text was put there; this is the place after it.
-    Next(usize),
-    // The text needs so many bytes; the buffer is as it was.
-    NoRoom(usize),
+pub struct NoRoom {
+    pub needed: usize,
 }
 
 // Whether n bytes fit from index at on, in a buffer of size bytes. Asked so that no sum can wrap.
 pub fn fits_at(size: usize, at: usize, n: usize) -> bool
     ensures { result ≡ leb (at + n) size }
 {
-    if size < at {
-        return false;
-    }
-    n <= size - at
+    at <= size && n <= size - at
 }
 
-fn store_text(text: &[u8], out: &mut [u8], at: usize) -> usize
-    requires { at + length text.now ≤ length out.old }
-    ensures { Stored out.old at text.now out.new result }
-{
-    let mut i = 0;
-    while i < text.len() {
-        out[at + i] = text[i];
-        i += 1;
-    }
-    at + i
-}
-
-// The text as it is, from index at on, where it fits.
-pub fn put_text(text: &[u8], out: &mut [u8], at: usize) -> Placed
+// The text as it is, from index at on, where it fits; the answer is the place after it.
+pub fn put_text(text: &[u8], out: &mut [u8], at: usize) -> Result<usize, NoRoom>
     ensures { (result ≡ placed_of out.old at text.now) × (out.new ≡ buffer_after out.old at text.now) }
 {
     let n = text.len();
     if !fits_at(out.len(), at, n) {
-        return Placed::NoRoom(n);
+        return Err(NoRoom { needed: n });
     }
-    Placed::Next(store_text(text, out, at))
+    let next = at + n;
+    out[at..next].copy_from_slice(text);
+    Ok(next)
 }

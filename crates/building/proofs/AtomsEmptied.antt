@@ -3,16 +3,13 @@ use mathlib.Core.Path.{◌≡◌, sym, ap, ◌∙◌, subst}
 use mathlib.Core.List.{List, map}
 use Prim.Native.Nat.{ℕ, suc, ◌^◌, ◌≤◌, ◌<◌}
 use lib.Dec.{ltb}
-use lib.Ieee.{Float}
 use lib.ListN.{length, get_or}
-use Rattle.field_slices.specs.declared.places.Place.TheVariants.{Before}
-use Rattle.field_slices.specs.Clearing.{zero_float, zero_point}
+use Rattle.std.specs.Prelude.{Result, Err}
+use Rattle.field_slices.specs.Clearing.{zero_float}
 use Rattle.field_slices.specs.Insertion.{ins}
-use Rattle.field_slices.specs.Places.{pairs, below, place_in}
-use Rattle.gapped_slices.specs.Areas.{many, Lies, one_more_at, stand_of, entries_in, PutsIn}
-use Rattle.gapped_slices.specs.Spots.{Spotted}
+use Rattle.field_slices.specs.Places.{place_in}
+use Rattle.gapped_slices.specs.Areas.{many, one_more_at, stand_of, entries_in}
 use Rattle.gapped_slices.specs.declared.areas.Area.{Area}
-use Rattle.gapped_slices.specs.declared.spots.Spot.{Spot}
 use Rattle.model.specs.Finished.{key_part, name_part}
 use Rattle.model.specs.Fold.{Atom}
 use Rattle.model.specs.Keys.{atom_place}
@@ -20,8 +17,9 @@ use Rattle.model.specs.Lent.{coordinates}
 use Rattle.model.specs.Map.{Entry, Map, find}
 use Rattle.model.proofs.KeysGiveBack.{whole_place}
 use Rattle.building.specs.declared.stores.Store.{Store}
-use Rattle.building.specs.Kinds.{AtomSlices, AtomsIn, AtomsLong}
-use Rattle.building.specs.Stores.{Apart}
+use Rattle.building.specs.declared.atoms.AtomEntry.{AtomEntry}
+use Rattle.building.specs.Kinds.{AtomSlices, atom_entry_at, IsAtom, AtomsIn, AtomsLong, AtomSpotted, PutsAtom}
+use Rattle.building.specs.Stores.{place_of, Apart}
 use Rattle.building.proofs.AtomPlaces.{name_small}
 use Rattle.building.proofs.AtomStores.{atom_entered, atom_elsewhere, atom_looked_new}
 use Rattle.building.proofs.EmptyingLaws.{Emptying, taken, not_in_main, lies_so_far, goes_over}
@@ -44,54 +42,44 @@ module _ (first r after : AtomSlices) (room : ℕ) (small : room < 2 ^ 64) (long
   out : {A : Type 0} (field : Entry Atom → A) (l : List A) → room ≤ length l → entries_in s.pocket l ≡ map field q → get_or l (stand_of s.pocket k) (field none_such) ≡ field e
   out = taken (AtomsIn first) (AtomsIn r) (AtomsIn after) room s m h k low none_such a g
 
-  module _ (at key name element : ℕ) (position : List Float) (occupancy : Float) (stands : at ≡ stand_of s.pocket k) (key_is : key ≡ get_or r.keys at 0) (name-is : name ≡ get_or r.names at 0)
-      (element-is : element ≡ get_or r.elements at 0) (position_is : position ≡ get_or r.positions at zero_point) (occupancy-is : occupancy ≡ get_or r.occupancies at zero_float) where
-    own_key : key ≡ key_part e.key
-    own_key = key_is ∙ ap (λ (i : ℕ). get_or r.keys i 0) stands ∙ out (λ (x : Entry Atom). key_part x.key) r.keys long.keys g.pocket.keys_held
+  module _ (x : AtomEntry) (read : x ≡ atom_entry_at r (stand_of s.pocket k)) where
+    own_key : x.key ≡ key_part e.key
+    own_key = ap (λ (y : AtomEntry). y.key) read ∙ out (λ (x : Entry Atom). key_part x.key) r.keys long.keys g.pocket.keys_held
 
-    own_name : name ≡ name_part e.key
-    own_name = name-is ∙ ap (λ (i : ℕ). get_or r.names i 0) stands ∙ out (λ (x : Entry Atom). name_part x.key) r.names long.names g.pocket.names_held
+    own_name : x.name ≡ name_part e.key
+    own_name = ap (λ (y : AtomEntry). y.name) read ∙ out (λ (x : Entry Atom). name_part x.key) r.names long.names g.pocket.names_held
 
-    own_element : element ≡ e.value.element
-    own_element = element-is ∙ ap (λ (i : ℕ). get_or r.elements i 0) stands ∙ out (λ (x : Entry Atom). x.value.element) r.elements long.elements g.pocket.elements_held
+    own : IsAtom x e.value
+    own = record {
+      element = ap (λ (y : AtomEntry). y.element) read ∙ out (λ (x : Entry Atom). x.value.element) r.elements long.elements g.pocket.elements_held;
+      position = ap (λ (y : AtomEntry). y.position) read ∙ out (λ (x : Entry Atom). coordinates x.value.position) r.positions long.positions g.pocket.positions_held;
+      occupancy = ap (λ (y : AtomEntry). y.occupancy) read ∙ out (λ (x : Entry Atom). x.value.occupancy) r.occupancies long.occupancies g.pocket.occupancies_held;
+    }
 
-    own_position : position ≡ coordinates e.value.position
-    own_position =
-        position_is
-        ∙ ap (λ (i : ℕ). get_or r.positions i zero_point) stands
-        ∙ out (λ (x : Entry Atom). coordinates x.value.position) r.positions long.positions g.pocket.positions_held
-
-    own_occupancy : occupancy ≡ e.value.occupancy
-    own_occupancy =
-        occupancy-is
-        ∙ ap (λ (i : ℕ). get_or r.occupancies i zero_float) stands
-        ∙ out (λ (x : Entry Atom). x.value.occupancy) r.occupancies long.occupancies g.pocket.occupancies_held
-
-    own_place : atom_place key name ≡ e.key
+    own_place : atom_place x.key x.name ≡ e.key
     own_place = (λ i. atom_place (own_key i) (own_name i)) ∙ whole_place e.key
 
-    small_name : name < 2 ^ 64
+    small_name : x.name < 2 ^ 64
     small_name = subst (λ (n : ℕ). n < 2 ^ 64) (sym own_name) (name_small e.key)
 
     -- ---- and put in
-    module _ (spot : Spot) (look : Lies a (length r.keys) → Lies a (length r.names) → Spotted below (pairs (entries_in a r.keys) (entries_in a r.names)) (key, name) spot)
-        (a' : Area) (grown : suc (many a) < 2 ^ 64 → spot.front ≤ many a → a' ≡ one_more_at a spot.front)
-        (ks : PutsIn a spot.front key r.keys after.keys) (ns : PutsIn a spot.front name r.names after.names) (es : PutsIn a spot.front element r.elements after.elements)
-        (ps : PutsIn a spot.front position r.positions after.positions) (os : PutsIn a spot.front occupancy r.occupancies after.occupancies) where
-      place : Before spot.front ≡ place_in ltb e.key (keys g.so_far)
+    module _ (spot : Result ℕ ℕ) (look : AtomSpotted r a x.key x.name spot)
+        (at : ℕ) (at_is : at ≡ place_of spot) (a' : Area) (grown : suc (many a) < 2 ^ 64 → at ≤ many a → a' ≡ one_more_at a at) (puts : PutsAtom a at x r after) where
+      place : Err at ≡ place_in ltb e.key (keys g.so_far)
       place =
           let lies = lies_so_far (AtomsIn first) (AtomsIn r) (AtomsIn after) room s m h k low none_such a g in
           let absent = not_in_main (AtomsIn first) (AtomsIn r) (AtomsIn after) room s m h k low none_such a g in
-          subst (λ (x : ℕ). Before spot.front ≡ place_in ltb x (keys g.so_far)) own_place
-          (atom_looked_new r a g.so_far g.main key name small_name e.value spot (look (lies (length r.keys) long.keys) (lies (length r.names) long.names))
-          (ap (λ (x : ℕ). find x g.so_far) own_place ∙ absent))
+          ap Err at_is
+          ∙ subst (λ (y : ℕ). Err (place_of spot) ≡ place_in ltb y (keys g.so_far)) own_place
+          (atom_looked_new r a g.so_far g.main x.key x.name small_name e.value spot (look (lies (length r.keys) long.keys) (lies (length r.names) long.names))
+          (ap (λ (y : ℕ). find y g.so_far) own_place ∙ absent))
 
-      enters : Enters (AtomsIn r) (AtomsIn after) room a spot.front e g.so_far
-      enters ordered inside more Front-low i =
-          subst (λ (x : ℕ). AtomsIn after (one_more_at a spot.front) (ins spot.front (record { key = x; value = e.value }) g.so_far)) own_place
-          (atom_entered r after a spot.front key name element position occupancy ks ns es ps os room long small_name ordered inside more Front-low e.value own_element own_position own_occupancy g.so_far i)
+      enters : Enters (AtomsIn r) (AtomsIn after) room a at e g.so_far
+      enters ordered inside more at_low i =
+          subst (λ (y : ℕ). AtomsIn after (one_more_at a at) (ins at (record { key = y; value = e.value }) g.so_far)) own_place
+          (atom_entered r after a at x puts room long small_name ordered inside more at_low e.value own g.so_far i)
 
       pub atom_over : Emptying (AtomsIn after) s q m (suc k) a'
       atom_over =
-          goes_over (AtomsIn first) (AtomsIn r) (AtomsIn after) room s m h k low none_such a g small spot.front place a' grown enters
-          (λ side ordered. atom_elsewhere r after a spot.front key name element position occupancy ks ns es ps os s.pocket side ordered q)
+          goes_over (AtomsIn first) (AtomsIn r) (AtomsIn after) room s m h k low none_such a g small at place a' grown enters
+          (λ side ordered. atom_elsewhere r after a at x puts s.pocket side ordered q)

@@ -8,7 +8,7 @@ use borrow.Author.Tests.{lt-ltb, le-ltb}
 use Rattle.model.specs.declared.room.Room.{Room}
 use Rattle.refusals.specs.declared.details.RecordKind.TheVariants as kind
 use Rattle.model.specs.Room.{no_room, first_lack}
-use Rattle.model.specs.declared.room.Lack.TheVariants.{Nothing, Of}
+use Rattle.std.specs.Prelude.{None, Some, is_err}
 use Rattle.model.proofs.RoomLaws.{nothing_lacks}
 use Rattle.building.specs.declared.sites.Counts.{Counts}
 use Rattle.building.specs.declared.sites.Places.{Places}
@@ -48,27 +48,27 @@ module _ (room : Room) (c : Counts) (p : Places) where
   no_chain = no_room (is_new_chain c p) room.chains c.chains
 
   abbrev pub no_residue : Bool
-  no_residue = no_room p.residue.new room.residues c.residues
+  no_residue = no_room (is_err p.residue) room.residues c.residues
 
   abbrev pub no_atom : Bool
-  no_atom = no_room p.atom.new room.atoms c.atoms
+  no_atom = no_room (is_err p.atom) room.atoms c.atoms
 
-  pub lacks_chain : no_chain ≡ true → lack_of room c p ≡ Of kind.Chain
+  pub lacks_chain : no_chain ≡ true → lack_of room c p ≡ Some kind.Chain
   unfolding lack_of
   lacks_chain e = ap (λ (t : Bool). first_lack t no_residue no_atom) e
 
-  pub lacks_residue : no_chain ≡ false → no_residue ≡ true → lack_of room c p ≡ Of kind.Residue
+  pub lacks_residue : no_chain ≡ false → no_residue ≡ true → lack_of room c p ≡ Some kind.Residue
   unfolding lack_of
   lacks_residue e f = λ i. first_lack (e i) (f i) no_atom
 
-  pub lacks_atom : no_chain ≡ false → no_residue ≡ false → no_atom ≡ true → lack_of room c p ≡ Of kind.Atom
+  pub lacks_atom : no_chain ≡ false → no_residue ≡ false → no_atom ≡ true → lack_of room c p ≡ Some kind.Atom
   unfolding lack_of
   lacks_atom e f g = λ i. first_lack (e i) (f i) (g i)
 
-  pub lacks_none : no_chain ≡ false → no_residue ≡ false → no_atom ≡ false → lack_of room c p ≡ Nothing
+  pub lacks_none : no_chain ≡ false → no_residue ≡ false → no_atom ≡ false → lack_of room c p ≡ None
   unfolding lack_of
   lacks_none e f g = λ i. first_lack (e i) (f i) (g i)
 
-  pub all_have_room : lack_of room c p ≡ Nothing → (no_chain ≡ false) × (no_residue ≡ false) × (no_atom ≡ false)
+  pub all_have_room : lack_of room c p ≡ None → (no_chain ≡ false) × (no_residue ≡ false) × (no_atom ≡ false)
   unfolding lack_of
   all_have_room = nothing_lacks no_chain no_residue no_atom

@@ -10,7 +10,7 @@ use native.Mathlib.Omega.{arith}
 use lib.Dec.{ltb}
 use lib.ListN.{length, drop, get_or, drop_of_length-le}
 use lib.Seq.{drop-cons}
-use Rattle.field_slices.specs.declared.places.Place.TheVariants.{Before}
+use Rattle.std.specs.Prelude.{Err}
 use Rattle.field_slices.specs.Insertion.{ins}
 use Rattle.field_slices.specs.Places.{place_in}
 use Rattle.gapped_slices.specs.Areas.{many, Lies, one_more_at, stand_of, entries_in}
@@ -74,7 +74,7 @@ module _ {W : Type 0} where
     pub next_new : find next.key g.so_far ≡ none
     next_new = none_yet next g.so_far (drop (suc k) q) m rest_ascends parted_here
 
-    pub empties_next : (at : ℕ) → Before at ≡ place_in ltb next.key (keys g.so_far) → (In a g.so_far → In' (one_more_at a at) (ins at next g.so_far)) → (In s.pocket q → In' s.pocket q)
+    pub empties_next : (at : ℕ) → Err at ≡ place_in ltb next.key (keys g.so_far) → (In a g.so_far → In' (one_more_at a at) (ins at next g.so_far)) → (In s.pocket q → In' s.pocket q)
         → Emptying In' s q m (suc k) (one_more_at a at)
     empties_next at place entered stays = record {
       from = g.from;
@@ -110,7 +110,7 @@ module _ {W : Type 0} where
     pub lies_so_far : (size : ℕ) → room ≤ size → Lies a size
     lies_so_far size wide = record { ordered = main_inside.0; inside = omega (arith, main_inside.1, wide); fits = omega (arith, main_roomy) }
 
-    pub goes_over : room < 2 ^ 64 → (at : ℕ) → Before at ≡ place_in ltb e.key (keys g.so_far) → (a' : Area) → (suc (many a) < 2 ^ 64 → at ≤ many a → a' ≡ one_more_at a at)
+    pub goes_over : room < 2 ^ 64 → (at : ℕ) → Err at ≡ place_in ltb e.key (keys g.so_far) → (a' : Area) → (suc (many a) < 2 ^ 64 → at ≤ many a → a' ≡ one_more_at a at)
         → Enters In In' room a at e g.so_far → Stays In In' a s.pocket h.second → Emptying In' s h.second m (suc k) a'
     goes_over small at place a' grown enters stays =
         let at_low : at ≤ many a = omega (arith, (new e.key (λ o. e.value) g.so_far at place).inside, g.main.many) in

@@ -17,6 +17,7 @@ pub mod ResidueStores
 pub mod ResiduesEmptied
 pub mod ResiduesPut
 pub mod RoomInSlices
+mod SameSlices
 pub mod SeekLaws
 pub mod SiteLaws
 pub mod StoreLaws

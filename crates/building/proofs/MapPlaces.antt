@@ -1,6 +1,6 @@
 -- The place of a key among the keys of a map says what is found there and what a put leaves: the entries before it are below.
 use Prim.{tt}
-use mathlib.Core.Path.{◌≡◌, refl, sym, ap, ◌∙◌, subst}
+use mathlib.Core.Path.{◌≡◌, sym, ap, ◌∙◌, subst}
 use mathlib.Core.Bool.{true}
 use mathlib.Core.List.{List, [], ◌∷◌, map}
 use mathlib.Core.Option.{Option, none, some, none-ne-some}
@@ -9,10 +9,8 @@ use lib.Dec.{ltb}
 use lib.ListN.{length, take, get_or, set, length-map, get_or-map}
 use lib.Seq.{set-get_or}
 use borrow.Author.Tests.{lt-ltb, ltb-true}
-use Rattle.field_slices.specs.declared.places.Place.{Place}
-use Rattle.field_slices.specs.declared.places.Place.TheVariants.{At, Before}
-use Rattle.gapped_slices.specs.Spots.{spot_of, Spotted}
-use Rattle.gapped_slices.specs.declared.spots.Spot.{Spot}
+use Rattle.std.specs.Prelude.{Result, Ok, Err}
+use Rattle.gapped_slices.specs.Spots.{Spotted}
 use Rattle.field_slices.specs.Insertion.{ins}
 use Rattle.field_slices.specs.Places.{Ascending, place_in}
 use Rattle.field_slices.proofs.OrderLaws.{numbers}
@@ -21,6 +19,7 @@ use Rattle.field_slices.proofs.MapLaws.{map_ins, map_set}
 use Rattle.model.specs.Map.{Entry, Map, find, put, AscendingFrom}
 use Rattle.model.proofs.PutByIndex as index
 use Rattle.building.specs.Holds.{Field}
+use Rattle.building.specs.Stores.{place_of}
 
 module _ {W : Type 0} where
   abbrev pub keys : Map W → List ℕ
@@ -52,15 +51,15 @@ module _ {W : Type 0} where
     key_at : (j : ℕ) → get_or (keys m) j 0 ≡ (get_or m j past).key
     key_at j = get_or-map (λ (e : Entry W). e.key) m j past
 
-    said : (p : Place) → p ≡ place_in ltb k (keys m) → Says numbers 0 k (keys m) p
+    said : (p : Result ℕ ℕ) → p ≡ place_in ltb k (keys m) → Says numbers 0 k (keys m) p
     said p e = subst (Says numbers 0 k (keys m)) (sym e) (place_says numbers 0 k (keys m))
 
     less : (i : ℕ) → ((j : ℕ) → j < i → ltb (get_or (keys m) j 0) k ≡ true) → (j : ℕ) → j < i → (get_or m j past).key < k
     less i b j h = ltb-true (get_or m j past).key k (ap (λ (x : ℕ). ltb x k) (sym (key_at j)) ∙ b j h)
 
-    pub there : (i : ℕ) → At i ≡ place_in ltb k (keys m) → There i
+    pub there : (i : ℕ) → Ok i ≡ place_in ltb k (keys m) → There i
     there i e =
-        let w = said (At i) e in
+        let w = said (Ok i) e in
         let h : i < length m = subst (λ (n : ℕ). i < n) (length-map m (λ (e : Entry W). e.key)) w.0 in
         let q : (get_or m i past).key ≡ k = sym (key_at i) ∙ w.1.1 in
         record {
@@ -71,9 +70,9 @@ module _ {W : Type 0} where
           stays = ap (λ (x : Entry W). set m i x) (λ j. record { key = sym q j; value = (get_or m i past).value }) ∙ set-get_or m i past;
         }
 
-    pub new : (i : ℕ) → Before i ≡ place_in ltb k (keys m) → New i
+    pub new : (i : ℕ) → Err i ≡ place_in ltb k (keys m) → New i
     new i e =
-        let w = said (Before i) e in
+        let w = said (Err i) e in
         let long = length-map m (λ (e : Entry W). e.key) in
         let h : i ≤ length m = subst (λ (n : ℕ). i ≤ n) long w.0 in
         let q = index.put_new past k f m i (less i w.1.0) h
@@ -88,15 +87,12 @@ module _ {W : Type 0} where
     pub field_set : take n' l' ≡ set (take n l) i (field x) → Field field l' n' (set m i x)
     field_set q = q ∙ ap (λ (t : List A). set t i (field x)) e ∙ sym (map_set field m i x)
 
-  -- ---- a spot that was looked for, of a key that is not there
-  pub before_front : (k : ℕ) (w : W) (m : Map W) (s : Spot) → find k m ≡ none → s ≡ spot_of (place_in ltb k (keys m)) → Before s.front ≡ place_in ltb k (keys m)
-  before_front k w m s absent e = go (place_in ltb k (keys m)) refl e
-    where
-      go : (p : Place) → p ≡ place_in ltb k (keys m) → s ≡ spot_of p → Before s.front ≡ p
-      go (At i) q e = absurd (none-ne-some _ (sym absent ∙ (there k (λ o. w) m i q).found))
-      go (Before i) q e = ap (λ (t : Spot). Before t.front) e
+  -- ---- a place that was looked for, of a key that is not there
+  pub before_place : (k : ℕ) (w : W) (m : Map W) (s : Result ℕ ℕ) → find k m ≡ none → s ≡ place_in ltb k (keys m) → Err (place_of s) ≡ place_in ltb k (keys m)
+  before_place k w m (Ok i) absent e = absurd (none-ne-some _ (sym absent ∙ (there k (λ o. w) m i e).found))
+  before_place k w m (Err i) absent e = e
 
   -- by a look among the keys of a map
-  pub looked_new : (k : ℕ) (w : W) (m : Map W) (l : List ℕ) (s : Spot) → l ≡ keys m → AscendingFrom 0 m → Spotted ltb l k s → find k m ≡ none → Before s.front ≡ place_in ltb k (keys m)
+  pub looked_new : (k : ℕ) (w : W) (m : Map W) (l : List ℕ) (s : Result ℕ ℕ) → l ≡ keys m → AscendingFrom 0 m → Spotted ltb l k s → find k m ≡ none → Err (place_of s) ≡ place_in ltb k (keys m)
   looked_new k w m l s e a f absent =
-      before_front k w m s absent (f.place (subst (Ascending ltb) (sym e) (keys_ascend 0 m a)) ∙ ap (λ (x : List ℕ). spot_of (place_in ltb k x)) e)
+      before_place k w m s absent (f.place (subst (Ascending ltb) (sym e) (keys_ascend 0 m a)) ∙ ap (λ (x : List ℕ). place_in ltb k x) e)

@@ -1,24 +1,22 @@
 -- What a key's places in the two areas say: whether the map has it, and what a put of it leaves, in the area that has it and in the map.
 use Prim.{Dec, yes, no}
 use mathlib.Core.Path.{◌≡◌, refl, sym, ap, ◌∙◌, subst}
-use mathlib.Core.Bool.{true, false, cond, false≢true}
+use mathlib.Core.Bool.{cond, false≢true}
 use mathlib.Core.Logic.{◌⊎◌, inl, inr}
 use mathlib.Core.Option.{Option, none, some, none-ne-some}
 use Prim.Native.Nat.{ℕ, suc}
 use native.Mathlib.Omega.{arith}
 use lib.Dec.{ltb}
 use lib.ListN.{length, get_or, set}
-use Rattle.field_slices.specs.declared.places.Place.{Place}
-use Rattle.field_slices.specs.declared.places.Place.TheVariants.{At, Before}
+use Rattle.std.specs.Prelude.{Result, Ok, Err, is_err}
 use Rattle.field_slices.specs.Places.{place_in}
 use Rattle.gapped_slices.specs.Areas.{stand_of}
 use Rattle.gapped_slices.specs.declared.areas.Area.{Area}
 use Rattle.model.specs.Map.{Map, find, is_none, put, Ascending}
 use Rattle.model.proofs.MapLaws.{find_put, find_put_other, length_put, ascending_put, same_map}
-use Rattle.building.specs.declared.seeking.Sought.{Sought}
 use Rattle.building.specs.declared.stores.Store.{Store}
 use Rattle.building.specs.Parted.{either_of}
-use Rattle.building.specs.Stores.{Kept, Apart, keys_of, sought_by}
+use Rattle.building.specs.Stores.{place_of, Kept, Apart, keys_of, sought_by}
 use Rattle.building.proofs.MapPlaces.{past, there, new}
 use Rattle.building.proofs.PartedLaws.{same_key, parted_turned, parted_put}
 
@@ -42,50 +40,54 @@ module _ {W : Type 0} (k : ℕ) (f : Option W → W) where
 
   -- ---- by the places in both areas
   module _ (In : Area → Map W → Type 0) (room : ℕ) (s : Store) (m : Map W) (h : Apart In room s m) where
-    abbrev in_first : Place
+    abbrev in_first : Result ℕ ℕ
     in_first = place_in ltb k (keys_of h.first)
 
-    abbrev in_second : Place
+    abbrev in_second : Result ℕ ℕ
     in_second = place_in ltb k (keys_of h.second)
 
-    found_first : (i : ℕ) → At i ≡ in_first → find k m ≡ some (get_or h.first i (past k f h.first)).value
+    found_first : (i : ℕ) → Ok i ≡ in_first → find k m ≡ some (get_or h.first i (past k f h.first)).value
     found_first i e = h.parted.both k ∙ ap (λ (o : Option W). either_of o (find k h.second)) (there k f h.first i e).found
 
-    found_second : (i j : ℕ) → Before i ≡ in_first → At j ≡ in_second → find k m ≡ some (get_or h.second j (past k f h.second)).value
+    found_second : (i j : ℕ) → Err i ≡ in_first → Ok j ≡ in_second → find k m ≡ some (get_or h.second j (past k f h.second)).value
     found_second i j e g = h.parted.both k ∙ (λ x. either_of ((new k f h.first i e).found x) ((there k f h.second j g).found x))
 
-    found_none : (i j : ℕ) → Before i ≡ in_first → Before j ≡ in_second → find k m ≡ none
+    found_none : (i j : ℕ) → Err i ≡ in_first → Err j ≡ in_second → find k m ≡ none
     found_none i j e g = h.parted.both k ∙ (λ x. either_of ((new k f h.first i e).found x) ((new k f h.second j g).found x))
 
-    pub new_says : (sought_by s in_first in_second).new ≡ is_none (find k m)
+    pub new_says : is_err (sought_by s in_first in_second) ≡ is_none (find k m)
     new_says = go in_first in_second refl refl
       where
-        go : (p q : Place) → p ≡ in_first → q ≡ in_second → (sought_by s p q).new ≡ is_none (find k m)
-        go (At i) q e g = sym (ap is_none (found_first i e))
-        go (Before i) (At j) e g = sym (ap is_none (found_second i j e g))
-        go (Before i) (Before j) e g = sym (ap is_none (found_none i j e g))
+        go : (p q : Result ℕ ℕ) → p ≡ in_first → q ≡ in_second → is_err (sought_by s p q) ≡ is_none (find k m)
+        go (Ok i) q e g = sym (ap is_none (found_first i e))
+        go (Err i) (Ok j) e g = sym (ap is_none (found_second i j e g))
+        go (Err i) (Err j) e g = sym (ap is_none (found_none i j e g))
+
+    -- what stands somewhere is not new
+    apart : {A : Type 0} {i j : ℕ} → ◌≡◌ {A = Result ℕ ℕ} (Ok i) (Err j) → A
+    apart w = absurd (false≢true (ap (λ (r : Result ℕ ℕ). is_err r) w))
 
     -- a key that is new, and its index in main
-    pub new_place : (r : Sought) → r ≡ sought_by s in_first in_second → r.new ≡ true → (find k m ≡ none) × (Before r.at ≡ in_first)
-    new_place r e n = go in_first in_second refl refl e
+    pub new_place : (at : ℕ) → Err at ≡ sought_by s in_first in_second → (find k m ≡ none) × (Err at ≡ in_first)
+    new_place at e = go in_first in_second refl refl e
       where
-        go : (p q : Place) → p ≡ in_first → q ≡ in_second → r ≡ sought_by s p q → (find k m ≡ none) × (Before r.at ≡ p)
-        go (At i) q e g w = absurd (false≢true (sym (ap (λ (x : Sought). x.new) w) ∙ n))
-        go (Before i) (At j) e g w = absurd (false≢true (sym (ap (λ (x : Sought). x.new) w) ∙ n))
-        go (Before i) (Before j) e g w = (found_none i j e g, ap (λ (x : Sought). Before x.at) w)
+        go : (p q : Result ℕ ℕ) → p ≡ in_first → q ≡ in_second → Err at ≡ sought_by s p q → (find k m ≡ none) × (Err at ≡ p)
+        go (Ok i) q e g w = apart (sym w)
+        go (Err i) (Ok j) e g w = apart (sym w)
+        go (Err i) (Err j) e g w = (found_none i j e g, w)
 
     -- a key that was met
-    pub met_value : (r : Sought) → r ≡ sought_by s in_first in_second → r.new ≡ false → (v : W) × (find k m ≡ some v)
-    met_value r e n = go in_first in_second refl refl e
+    pub met_value : (at : ℕ) → Ok at ≡ sought_by s in_first in_second → (v : W) × (find k m ≡ some v)
+    met_value at e = go in_first in_second refl refl e
       where
-        go : (p q : Place) → p ≡ in_first → q ≡ in_second → r ≡ sought_by s p q → (v : W) × (find k m ≡ some v)
-        go (At i) q e g w = (_, found_first i e)
-        go (Before i) (At j) e g w = (_, found_second i j e g)
-        go (Before i) (Before j) e g w = absurd (false≢true (sym n ∙ ap (λ (x : Sought). x.new) w))
+        go : (p q : Result ℕ ℕ) → p ≡ in_first → q ≡ in_second → Ok at ≡ sought_by s p q → (v : W) × (find k m ≡ some v)
+        go (Ok i) q e g w = (_, found_first i e)
+        go (Err i) (Ok j) e g w = (_, found_second i j e g)
+        go (Err i) (Err j) e g w = apart w
 
     -- ---- its entry replaced in the area that has it
     module _ (In' : Area → Map W → Type 0) where
-      kept_as : (a : Area) (p : Map W) → Kept In a p → (i : ℕ) → At i ≡ place_in ltb k (keys_of p) → In' a (set p i (record { key = k; value = f (some (get_or p i (past k f p)).value) })) → Kept In' a (put k f p)
+      kept_as : (a : Area) (p : Map W) → Kept In a p → (i : ℕ) → Ok i ≡ place_in ltb k (keys_of p) → In' a (set p i (record { key = k; value = f (some (get_or p i (past k f p)).value) })) → Kept In' a (put k f p)
       kept_as a p kept i e fields =
           let t = there k f p i e in
           record {
@@ -94,7 +96,7 @@ module _ {W : Type 0} (k : ℕ) (f : Option W → W) where
             fields = subst (In' a) (sym (t.puts f)) fields;
           }
 
-      pub replaced_main : (i : ℕ) → At i ≡ in_first → In' s.main (set h.first i (record { key = k; value = f (some (get_or h.first i (past k f h.first)).value) })) → In' s.pocket h.second
+      pub replaced_main : (i : ℕ) → Ok i ≡ in_first → In' s.main (set h.first i (record { key = k; value = f (some (get_or h.first i (past k f h.first)).value) })) → In' s.pocket h.second
           → Apart In' room s (put k f m)
       replaced_main i e fields stays = record {
         lays = h.lays;
@@ -110,7 +112,7 @@ module _ {W : Type 0} (k : ℕ) (f : Option W → W) where
           other (inl g) = absurd (none-ne-some _ (sym g ∙ (there k f h.first i e).found))
           other (inr g) = g
 
-      pub replaced_pocket : (i j : ℕ) → Before i ≡ in_first → At j ≡ in_second → In' s.pocket (set h.second j (record { key = k; value = f (some (get_or h.second j (past k f h.second)).value) }))
+      pub replaced_pocket : (i j : ℕ) → Err i ≡ in_first → Ok j ≡ in_second → In' s.pocket (set h.second j (record { key = k; value = f (some (get_or h.second j (past k f h.second)).value) }))
           → In' s.main h.first → Apart In' room s (put k f m)
       replaced_pocket i j e g fields stays = record {
         lays = h.lays;
@@ -123,12 +125,13 @@ module _ {W : Type 0} (k : ℕ) (f : Option W → W) where
       }
 
     -- which of the two areas has it, and where
-    pub met_place : (r : Sought) → r ≡ sought_by s in_first in_second → r.new ≡ false
-        → ((i : ℕ) × (At i ≡ in_first) × (r.at ≡ stand_of s.main i)) ⊎ ((i : ℕ) × (j : ℕ) × (Before i ≡ in_first) × (At j ≡ in_second) × (r.at ≡ stand_of s.pocket j))
-    met_place r e n = go in_first in_second refl refl e
+    abbrev pub Stands : ℕ → Result ℕ ℕ → Result ℕ ℕ → Type 0
+    Stands at p q = ((i : ℕ) × (Ok i ≡ p) × (at ≡ stand_of s.main i)) ⊎ ((i : ℕ) × (j : ℕ) × (Err i ≡ p) × (Ok j ≡ q) × (at ≡ stand_of s.pocket j))
+
+    pub met_place : (at : ℕ) → Ok at ≡ sought_by s in_first in_second → Stands at in_first in_second
+    met_place at e = go in_first in_second e
       where
-        go : (p q : Place) → p ≡ in_first → q ≡ in_second → r ≡ sought_by s p q
-            → ((i : ℕ) × (At i ≡ in_first) × (r.at ≡ stand_of s.main i)) ⊎ ((i : ℕ) × (j : ℕ) × (Before i ≡ in_first) × (At j ≡ in_second) × (r.at ≡ stand_of s.pocket j))
-        go (At i) q e g w = inl (i, e, ap (λ (x : Sought). x.at) w)
-        go (Before i) (At j) e g w = inr (i, j, e, g, ap (λ (x : Sought). x.at) w)
-        go (Before i) (Before j) e g w = absurd (false≢true (sym n ∙ ap (λ (x : Sought). x.new) w))
+        go : (p q : Result ℕ ℕ) → Ok at ≡ sought_by s p q → Stands at p q
+        go (Ok i) q w = inl (i, refl, ap place_of w)
+        go (Err i) (Ok j) w = inr (i, j, refl, refl, ap place_of w)
+        go (Err i) (Err j) w = apart w

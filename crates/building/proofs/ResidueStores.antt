@@ -6,32 +6,36 @@ use Prim.Native.Nat.{ℕ, ◌-◌, ◌≤◌, ◌<◌}
 use native.Mathlib.Omega.{arith}
 use lib.ListN.{length}
 use Rattle.field_slices.specs.Insertion.{ins}
-use Rattle.gapped_slices.specs.Areas.{many, one_more_at, MovedIn, PutsIn}
+use Rattle.gapped_slices.specs.Areas.{many, one_more_at, MovedIn}
 use Rattle.gapped_slices.specs.declared.areas.Area.{Area}
 use Rattle.gapped_slices.proofs.AreaLaws.{entries_elsewhere}
 use Rattle.model.specs.Fold.{Residue}
 use Rattle.model.specs.Lists.{count}
 use Rattle.model.specs.Map.{Entry, Map}
-use Rattle.building.specs.Kinds.{ResidueSlices, ResiduesIn, ResiduesFirst, ResiduesLong}
+use Rattle.building.specs.declared.residues.ResidueEntry.{ResidueEntry}
+use Rattle.building.specs.Kinds.{ResidueSlices, IsResidue, ResiduesIn, ResiduesFirst, ResiduesLong, ResiduesSame, PutsResidue}
 use Rattle.building.specs.Stores.{Kept}
 use Rattle.building.proofs.AreaFields.{field_entered, none_in, wider_in, all_first}
 
-module _ (r after : ResidueSlices) (a : Area) (at key name mark : ℕ) (ks : PutsIn a at key r.keys after.keys) (ns : PutsIn a at name r.names after.names) (ms : PutsIn a at mark r.marks after.marks) where
-  pub residue_entered : (room : ℕ) → ResiduesLong r room → a.from ≤ a.to → a.to ≤ room → many a < a.to - a.from → at ≤ many a → (v : Residue) → name ≡ v.name → mark ≡ count v.hetatm
-      → (m : Map Residue) → ResiduesIn r a m → ResiduesIn after (one_more_at a at) (ins at (record { key = key; value = v }) m)
-  residue_entered room long ordered inside more low v n c m h =
-      let x : Entry Residue = record { key = key; value = v } in
+module _ (r after : ResidueSlices) (a : Area) (at : ℕ) (e : ResidueEntry) (puts : PutsResidue a at e r after) where
+  pub residues_put_same : ResiduesSame r after
+  residues_put_same = record { keys = puts.keys.elsewhere.long; names = puts.names.elsewhere.long; marks = puts.marks.elsewhere.long }
+
+  pub residue_entered : (room : ℕ) → ResiduesLong r room → a.from ≤ a.to → a.to ≤ room → many a < a.to - a.from → at ≤ many a → (v : Residue) → IsResidue e v
+      → (m : Map Residue) → ResiduesIn r a m → ResiduesIn after (one_more_at a at) (ins at (record { key = e.key; value = v }) m)
+  residue_entered room long ordered inside more low v own m h =
+      let x : Entry Residue = record { key = e.key; value = v } in
       record {
-        keys_held = field_entered (λ (e : Entry Residue). e.key) a at x m r.keys after.keys ordered (omega (arith, long.keys)) more low ks refl h.keys_held;
-        names_held = field_entered (λ (e : Entry Residue). e.value.name) a at x m r.names after.names ordered (omega (arith, long.names)) more low ns n h.names_held;
-        marks_held = field_entered (λ (e : Entry Residue). count e.value.hetatm) a at x m r.marks after.marks ordered (omega (arith, long.marks)) more low ms c h.marks_held;
+        keys_held = field_entered (λ (e : Entry Residue). e.key) a at x m r.keys after.keys ordered (omega (arith, long.keys)) more low puts.keys refl h.keys_held;
+        names_held = field_entered (λ (e : Entry Residue). e.value.name) a at x m r.names after.names ordered (omega (arith, long.names)) more low puts.names own.name h.names_held;
+        marks_held = field_entered (λ (e : Entry Residue). count e.value.hetatm) a at x m r.marks after.marks ordered (omega (arith, long.marks)) more low puts.marks own.mark h.marks_held;
       }
 
   pub residue_elsewhere : (b : Area) → (b.to ≤ a.from) ⊎ (a.to ≤ b.from) → b.from ≤ b.to → (m : Map Residue) → ResiduesIn r b m → ResiduesIn after b m
   residue_elsewhere b side ordered m h = record {
-    keys_held = entries_elsewhere a b r.keys after.keys ks.elsewhere side ordered ∙ h.keys_held;
-    names_held = entries_elsewhere a b r.names after.names ns.elsewhere side ordered ∙ h.names_held;
-    marks_held = entries_elsewhere a b r.marks after.marks ms.elsewhere side ordered ∙ h.marks_held;
+    keys_held = entries_elsewhere a b r.keys after.keys puts.keys.elsewhere side ordered ∙ h.keys_held;
+    names_held = entries_elsewhere a b r.names after.names puts.names.elsewhere side ordered ∙ h.names_held;
+    marks_held = entries_elsewhere a b r.marks after.marks puts.marks.elsewhere side ordered ∙ h.marks_held;
   }
 
 -- ---- an area with none, and main widened

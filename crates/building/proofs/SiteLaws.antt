@@ -20,19 +20,18 @@ use Rattle.model.specs.Keys.{residue_key, atom_place, residue_at, atom_at}
 use Rattle.model.specs.Lists.{count}
 use Rattle.model.specs.Map.{Entry, Map, find, is_none, put}
 use Rattle.model.specs.Proper.{Proper}
-use Rattle.model.specs.declared.room.Lack.TheVariants.{Nothing}
 use Rattle.model.specs.declared.room.Room.{Room}
 use Rattle.model.specs.Room.{Fits, no_room, first_lack, lacking}
 use Rattle.model.specs.Taken.{skipped, site}
 use Rattle.model.proofs.MapLaws.{length_put}
 use Rattle.building.specs.declared.held.Held.{Held}
-use Rattle.building.specs.declared.seeking.Sought.{Sought}
+use Rattle.std.specs.Prelude.{None, Result, Ok, Err, is_ok, is_err}
 use Rattle.building.specs.declared.sites.Places.{Places}
 use Rattle.building.specs.declared.stores.Store.{Store}
 use Rattle.building.specs.Gaps.{none_held, residues_in, atoms_in, HoldsApart}
 use Rattle.building.specs.Holds.{Records, Within, SameLengths, HoldsChains}
 use Rattle.building.specs.Kinds.{ResiduesIn, ResiduesLong, ResiduesSame, AtomsIn, AtomsLong, AtomsSame}
-use Rattle.building.specs.Sites.{is_new_chain, SoughtFor, lack_of, counts_with, with_skipped}
+use Rattle.building.specs.Sites.{is_new_chain, SoughtFor, lack_of, one_more, counts_with, with_skipped}
 use Rattle.building.specs.Slices.{ChainFound}
 use Rattle.building.specs.Stores.{Apart, keys_of, sought_by, Puts}
 use Rattle.building.proofs.AtomPlaces.{split, splits, parts, place_split, ascending_split}
@@ -49,6 +48,10 @@ use Rattle.building.proofs.StoreLaws.{lies_main, lies_pocket, apart_none}
 outdone_by : (o : Option Atom) (n : ℕ) → cond (not (is_none o)) (suc n) n ≡ outdone_with o n
 outdone_by none n = refl
 outdone_by (some a) n = refl
+
+ok_not : (r : Result ℕ ℕ) → is_ok r ≡ not (is_err r)
+ok_not (Ok i) = refl
+ok_not (Err i) = refl
 
 outdone_within : (o : Option Atom) (n rows : ℕ) → n ≤ rows → outdone_with o n ≤ suc rows
 outdone_within none n rows h = omega arith
@@ -123,7 +126,7 @@ lengths_after r after place name e residues atoms = record {
 }
 
 module _ (r : Records) (room : Room) (h : Held) (s : Site) (p : Places) (place : ℕ) (found : ChainFound (take h.counts.chains r.chains) s.chain place)
-    (sought : SoughtFor r.residue_keys r.atom_keys r.atom_names h place s p)
+    (sought : SoughtFor (residues_in r) (atoms_in r) h place s p)
     (st : State) (a : HoldsApart r room h st) (w : Proper s) where
   abbrev chains : List ℕ
   chains = with_chain s.chain st.chains
@@ -163,9 +166,9 @@ module _ (r : Records) (room : Room) (h : Held) (s : Site) (p : Places) (place :
       (subst (Ascending ltb) (sym main) (keys_ascend 0 a.residues.first a.residues.main.ascending)) (subst (Ascending ltb) (sym pocket) (keys_ascend 0 a.residues.second a.residues.pocket.ascending))
       ∙ (λ i. sought_by h.residues (place_in ltb p.key (main i)) (place_in ltb p.key (pocket i)))
 
-  residue_new : p.residue.new ≡ is_none (find (residue_at chains s) st.residues)
+  residue_new : is_err p.residue ≡ is_none (find (residue_at chains s) st.residues)
   residue_new =
-      ap (λ (t : Sought). t.new) residue_sought
+      ap (λ (t : Result ℕ ℕ). is_err t) residue_sought
       ∙ new_says p.key (first s) (ResiduesIn (residues_in r)) room.residues h.residues st.residues a.residues
       ∙ ap (λ (k : ℕ). is_none (find k st.residues)) key_is
 
@@ -203,9 +206,9 @@ module _ (r : Records) (room : Room) (h : Held) (s : Site) (p : Places) (place :
       (ascends h.atoms.pocket a.atoms.second pocket.fields (keys_ascend 0 a.atoms.second pocket.ascending))
       ∙ (λ i. sought_by h.atoms (place_of_atom h.atoms.main a.atoms.first main.fields i) (place_of_atom h.atoms.pocket a.atoms.second pocket.fields i))
 
-  atom_new : p.atom.new ≡ is_none (find (atom_at chains s) st.atoms)
+  atom_new : is_err p.atom ≡ is_none (find (atom_at chains s) st.atoms)
   atom_new =
-      ap (λ (t : Sought). t.new) atom_sought
+      ap (λ (t : Result ℕ ℕ). is_err t) atom_sought
       ∙ new_says k (greater s) (AtomsIn (atoms_in r)) room.atoms h.atoms st.atoms a.atoms
       ∙ ap (λ (x : ℕ). is_none (find x st.atoms)) atom_is
 
@@ -216,18 +219,18 @@ module _ (r : Records) (room : Room) (h : Held) (s : Site) (p : Places) (place :
       let c = h.counts in
       let e1 : no_room (is_new_chain c p) room.chains c.chains ≡ no_room (leb (length st.chains) (chain_place s.chain st.chains)) room.chains (length st.chains)
       = λ i. no_room (leb (a.chains.many i) (place_of_chain i)) room.chains (a.chains.many i) in
-      let e2 : no_room p.residue.new room.residues c.residues ≡ no_room (is_none (find (residue_at chains s) st.residues)) room.residues (length st.residues)
+      let e2 : no_room (is_err p.residue) room.residues c.residues ≡ no_room (is_none (find (residue_at chains s) st.residues)) room.residues (length st.residues)
       = λ i. no_room (residue_new i) room.residues (a.counted.residues i) in
-      let e3 : no_room p.atom.new room.atoms c.atoms ≡ no_room (is_none (find (atom_at chains s) st.atoms)) room.atoms (length st.atoms)
+      let e3 : no_room (is_err p.atom) room.atoms c.atoms ≡ no_room (is_none (find (atom_at chains s) st.atoms)) room.atoms (length st.atoms)
       = λ i. no_room (atom_new i) room.atoms (a.counted.atoms i) in
       λ i. first_lack (e1 i) (e2 i) (e3 i)
 
   -- ---- what is stored
-  module _ (roomy : lack_of room h.counts p ≡ Nothing) (after : Records) (chains-are : after.chains ≡ set r.chains place s.chain) (residues atoms : Store)
+  module _ (roomy : lack_of room h.counts p ≡ None) (after : Records) (chains-are : after.chains ≡ set r.chains place s.chain) (residues atoms : Store)
       (residue-put : Puts (ResiduesSame (residues_in r) (residues_in after)) (ResiduesLong (residues_in r)) (ResiduesIn (residues_in r)) (ResiduesIn (residues_in after)) room.residues h.residues p.residue p.key (first s) residues)
       (atom-put : Puts (AtomsSame (atoms_in r) (atoms_in after)) (AtomsLong (atoms_in r)) (AtomsIn (atoms_in r)) (AtomsIn (atoms_in after)) room.atoms h.atoms p.atom k (greater s) atoms) where
-    rooms : (no_room (is_new_chain h.counts p) room.chains h.counts.chains ≡ false) × (no_room p.residue.new room.residues h.counts.residues ≡ false)
-        × (no_room p.atom.new room.atoms h.counts.atoms ≡ false)
+    rooms : (no_room (is_new_chain h.counts p) room.chains h.counts.chains ≡ false) × (no_room (is_err p.residue) room.residues h.counts.residues ≡ false)
+        × (no_room (is_err p.atom) room.atoms h.counts.atoms ≡ false)
     rooms = all_have_room room h.counts p roomy
 
     chains_after : HoldsChains after.chains (cond (is_new_chain h.counts p) (suc h.counts.chains) h.counts.chains) chains
@@ -237,10 +240,10 @@ module _ (r : Records) (room : Room) (h : Held) (s : Site) (p : Places) (place :
         (λ t. chain_room room r a.within h.counts.chains (room_beside (is_new_chain h.counts p) room.chains h.counts.chains rooms.0 t)))
 
     -- ---- how many there are then
-    residues_many : length (put (residue_at chains s) (first s) st.residues) ≡ cond p.residue.new (suc h.counts.residues) h.counts.residues
+    residues_many : length (put (residue_at chains s) (first s) st.residues) ≡ cond (is_err p.residue) (suc h.counts.residues) h.counts.residues
     residues_many = length_put (residue_at chains s) (first s) st.residues ∙ (λ i. cond (sym residue_new i) (suc (sym a.counted.residues i)) (sym a.counted.residues i))
 
-    atoms_many : length (put (atom_at chains s) (greater s) st.atoms) ≡ cond p.atom.new (suc h.counts.atoms) h.counts.atoms
+    atoms_many : length (put (atom_at chains s) (greater s) st.atoms) ≡ cond (is_err p.atom) (suc h.counts.atoms) h.counts.atoms
     atoms_many = length_put (atom_at chains s) (greater s) st.atoms ∙ (λ i. cond (sym atom_new i) (suc (sym a.counted.atoms i)) (sym a.counted.atoms i))
 
     fits_after : Fits room (step st (site s))
@@ -251,10 +254,10 @@ module _ (r : Records) (room : Room) (h : Held) (s : Site) (p : Places) (place :
           (within (is_new_chain h.counts p) room.chains h.counts.chains rooms.0 (omega (arith, a.chains.many, a.fits.chains)));
       residues =
           subst (λ (z : ℕ). z ≤ room.residues) (sym residues_many)
-          (within p.residue.new room.residues h.counts.residues rooms.1 (omega (arith, a.counted.residues, a.fits.residues)));
+          (within (is_err p.residue) room.residues h.counts.residues rooms.1 (omega (arith, a.counted.residues, a.fits.residues)));
       atoms =
           subst (λ (z : ℕ). z ≤ room.atoms) (sym atoms_many)
-          (within p.atom.new room.atoms h.counts.atoms rooms.2 (omega (arith, a.counted.atoms, a.fits.atoms)));
+          (within (is_err p.atom) room.atoms h.counts.atoms rooms.2 (omega (arith, a.counted.atoms, a.fits.atoms)));
     }
 
     -- ---- the theorem
@@ -271,18 +274,18 @@ module _ (r : Records) (room : Room) (h : Held) (s : Site) (p : Places) (place :
           chains = subst (λ (n : ℕ). HoldsChains after.chains n chains) (sym (more_counted c.chains (is_new_chain c p) (omega (arith, few-chains)))) chains_after;
           residues =
               subst (λ (x : ℕ). Apart (ResiduesIn (residues_in after)) room.residues residues (put x (first s) st.residues)) key_is
-              (residue-put.apart st.residues residues_long a.residues residue_sought (λ t. omega (arith, room_beside p.residue.new room.residues c.residues rooms.1 t, m.residues)));
+              (residue-put.apart st.residues residues_long a.residues residue_sought (λ t. omega (arith, room_beside (is_err p.residue) room.residues c.residues rooms.1 t, m.residues)));
           atoms =
               subst (λ (x : ℕ). Apart (AtomsIn (atoms_in after)) room.atoms atoms (put x (greater s) st.atoms)) atom_is
-              (atom-put.apart st.atoms atoms_long a.atoms atom_sought (λ t. omega (arith, room_beside p.atom.new room.atoms c.atoms rooms.2 t, m.atoms)));
+              (atom-put.apart st.atoms atoms_long a.atoms atom_sought (λ t. omega (arith, room_beside (is_err p.atom) room.atoms c.atoms rooms.2 t, m.atoms)));
           fits = fits_after;
           counted = record {
-            residues = more_counted c.residues p.residue.new (omega (arith, few_residues)) ∙ sym residues_many;
-            atoms = more_counted c.atoms p.atom.new (omega (arith, few_atoms)) ∙ sym atoms_many;
+            residues = more_counted c.residues (is_err p.residue) (omega (arith, few_residues)) ∙ sym residues_many;
+            atoms = more_counted c.atoms (is_err p.atom) (omega (arith, few_atoms)) ∙ sym atoms_many;
             rows = more_counted c.rows true (omega (arith, m.rows, few)) ∙ ap suc m.rows;
             skipped = m.skipped;
             outdone =
-                more_counted c.outdone (not p.atom.new) (omega (arith, m.outdone, m.outdone_rows, few))
+                ap (λ (t : Bool). one_more t c.outdone) (ok_not p.atom) ∙ more_counted c.outdone (not (is_err p.atom)) (omega (arith, m.outdone, m.outdone_rows, few))
                 ∙ (λ i. cond (not (atom_new i)) (suc (m.outdone i)) (m.outdone i))
                 ∙ outdone_by (find (atom_at chains s) st.atoms) st.outdone;
             assumed =

@@ -9,7 +9,7 @@ use Prim.Native.Nat.{ℕ, suc, ◌-◌, ◌^◌, ◌≤◌, ◌<◌}
 use native.Mathlib.Omega.{arith}
 use lib.Dec.{ltb}
 use lib.ListN.{length}
-use Rattle.field_slices.specs.declared.places.Place.TheVariants.{Before}
+use Rattle.std.specs.Prelude.{Err}
 use Rattle.field_slices.specs.Insertion.{ins}
 use Rattle.field_slices.specs.Places.{place_in}
 use Rattle.field_slices.proofs.InsertionLaws.{length_ins}
@@ -62,7 +62,7 @@ module _ {W : Type 0} where
   Stays In In' a b m = (b.to ≤ a.from) ⊎ (a.to ≤ b.from) → b.from ≤ b.to → In b m → In' b m
 
   -- ---- a new entry at its index of an area
-  module _ (In In' : Area → Map W → Type 0) (a : Area) (m : Map W) (k at : ℕ) (v : W) (kept : Kept In a m) (place : Before at ≡ place_in ltb k (keys m))
+  module _ (In In' : Area → Map W → Type 0) (a : Area) (m : Map W) (k at : ℕ) (v : W) (kept : Kept In a m) (place : Err at ≡ place_in ltb k (keys m))
       (entered : In a m → In' (one_more_at a at) (ins at (record { key = k; value = v }) m)) where
     pub within : at ≤ many a
     within = omega (arith, (new k (λ o. v) m at place).inside, kept.many)
@@ -81,7 +81,7 @@ module _ {W : Type 0} where
     nowhere : (find k h.first ≡ none) × (find k h.second ≡ none)
     nowhere = not_in_either k h.first h.second m h.parted none_there
 
-    pub apart_main : Before at ≡ place_in ltb k (keys h.first) → InMain s at r
+    pub apart_main : Err at ≡ place_in ltb k (keys h.first) → InMain s at r
         → (In s.main h.first → In' (one_more_at s.main at) (ins at (record { key = k; value = v }) h.first)) → (In s.pocket h.second → In' s.pocket h.second)
         → Apart In' room r (put k (λ o. v) m)
     apart_main place to entered stays =
@@ -106,7 +106,7 @@ module _ {W : Type 0} where
           parted = parted_put k (λ o. v) h.first h.second m h.parted nowhere.1;
         }
 
-    pub apart_pocket : many s.pocket < s.pocket.to - s.pocket.from → Before at ≡ place_in ltb k (keys h.second) → InPocket s at r
+    pub apart_pocket : many s.pocket < s.pocket.to - s.pocket.from → Err at ≡ place_in ltb k (keys h.second) → InPocket s at r
         → (In s.pocket h.second → In' (one_more_at s.pocket at) (ins at (record { key = k; value = v }) h.second)) → (In s.main h.first → In' s.main h.first)
         → Apart In' room r (put k (λ o. v) m)
     apart_pocket more place to entered stays =
@@ -132,10 +132,10 @@ module _ {W : Type 0} where
         }
 
     -- the same, with what the areas' bounds say
-    small_at : (a : Area) (n : Map W) → Kept In a n → Before at ≡ place_in ltb k (keys n) → at ≤ many a
+    small_at : (a : Area) (n : Map W) → Kept In a n → Err at ≡ place_in ltb k (keys n) → at ≤ many a
     small_at a n kept place = omega (arith, (new k (λ o. v) n at place).inside, kept.many)
 
-    pub goes_main : room < 2 ^ 64 → Before at ≡ place_in ltb k (keys h.first) → (suc (many s.main) < 2 ^ 64 → at ≤ many s.main → InMain s at r)
+    pub goes_main : room < 2 ^ 64 → Err at ≡ place_in ltb k (keys h.first) → (suc (many s.main) < 2 ^ 64 → at ≤ many s.main → InMain s at r)
         → Enters In In' room s.main at (record { key = k; value = v }) h.first → Stays In In' s.main s.pocket h.second → Apart In' room r (put k (λ o. v) m)
     goes_main small place goes enters stays =
         let l = h.lays in
@@ -143,7 +143,7 @@ module _ {W : Type 0} where
         apart_main place (goes (omega (arith, roomy, l.ordered, l.inside, small)) low) (enters (omega (arith, l.start)) (omega (arith, l.ordered, l.inside)) (omega (arith, l.start, roomy)) low)
         (stays (inr (omega (arith, l.middle))) (omega (arith, l.middle, l.ordered)))
 
-    pub goes_pocket : room < 2 ^ 64 → many s.pocket < s.pocket.to - s.pocket.from → Before at ≡ place_in ltb k (keys h.second)
+    pub goes_pocket : room < 2 ^ 64 → many s.pocket < s.pocket.to - s.pocket.from → Err at ≡ place_in ltb k (keys h.second)
         → (suc (many s.pocket) < 2 ^ 64 → at ≤ many s.pocket → InPocket s at r)
         → Enters In In' room s.pocket at (record { key = k; value = v }) h.second → Stays In In' s.pocket s.main h.first → Apart In' room r (put k (λ o. v) m)
     goes_pocket small more place goes enters stays =

@@ -1,10 +1,10 @@
 -- Which model the lent slices hold, one slice to a field.
 use Rattle.std.specs.Prelude.{◌≡◌, List, map, ℕ, ◌≤◌, Float, length, take}
-use denote.Triple.Both.{Both}
-use Rattle.field_slices.specs.Slice.{Slice, held}
 use Rattle.model.specs.Fold.{Residue, Atom, State}
 use Rattle.model.specs.Finished.{key_part, name_part}
 use Rattle.model.specs.Lent.{Lent, coordinates}
+use Rattle.model.specs.declared.lent.AtomsMut.{AtomsMut}
+use Rattle.model.specs.declared.lent.ResiduesMut.{ResiduesMut}
 use Rattle.model.specs.Lists.{count}
 use Rattle.model.specs.Map.{Entry, Map, Ascending}
 use Rattle.model.specs.declared.room.Room.{Room}
@@ -37,15 +37,9 @@ records_of chains residue_keys residue_names residue_marks atom_keys atom_names 
   occupancies = occupancies;
 }
 
--- those of a function's parameters, at its entry and at its exit, with the names of the chains at both
-abbrev pub records_by : Both (List ℕ) (List ℕ) → Slice ℕ → Slice ℕ → Slice ℕ → Slice ℕ → Slice ℕ → Slice ℕ → Slice (List Float) → Slice Float → Both Records Records
-records_by chains residue_keys residue_names residue_marks atom_keys atom_names elements positions occupancies = record {
-  entry = records_of chains.entry residue_keys.entry.now residue_names.entry.now residue_marks.entry.now atom_keys.entry.now atom_names.entry.now elements.entry.now positions.entry.now occupancies.entry.now;
-  exit = records_of chains.exit residue_keys.exit.now residue_names.exit.now residue_marks.exit.now atom_keys.exit.now atom_names.exit.now elements.exit.now positions.exit.now occupancies.exit.now;
-}
-
-abbrev pub records : Slice ℕ → Slice ℕ → Slice ℕ → Slice ℕ → Slice ℕ → Slice ℕ → Slice ℕ → Slice (List Float) → Slice Float → Both Records Records
-records chains = records_by (held chains)
+-- those of lent records, with the names of the chains; while rows are read the HETATM marks stand where the categories will
+abbrev pub records_now : List ℕ → ResiduesMut → AtomsMut → Records
+records_now chains r a = records_of chains r.keys.now r.names.now r.categories.now a.keys.now a.names.now a.elements.now a.positions.now a.occupancies.now
 
 -- the records of the lent slices; while rows are read the HETATM marks stand where the categories will
 abbrev pub records_in : Lent → Records

@@ -1,16 +1,13 @@
 -- Where the records of one kind stand while rows come: in two areas of the same slices, most of them in main, and those that come too far from its gap in the pocket behind it, until
 -- the pocket is emptied into main. Said once for residues and atoms: `In` says of an area which map the slices of a kind have in it.
-use Rattle.std.specs.Prelude.{◌≡◌, Bool, true, false, cond, List, map, ◌⊎◌, ℕ, ◌+◌, ◌-◌, ◌≤◌, ◌<◌, ltb, length}
+use Rattle.std.specs.Prelude.{◌≡◌, Bool, true, cond, List, map, ◌⊎◌, ℕ, ◌+◌, ◌-◌, ◌≤◌, ◌<◌, ltb, length, is_err, Result, Ok, Err}
 use Rattle.std.proofs.Math.Option.{Option, none}
 use Prim.{Unit}
-use Rattle.field_slices.specs.declared.places.Place.{Place}
-use Rattle.field_slices.specs.declared.places.Place.TheVariants.{At, Before}
 use Rattle.field_slices.specs.Places as Places
 use Rattle.field_slices.specs.Places.{place_in}
 use Rattle.gapped_slices.specs.Areas.{many, one_more_at, stand_of}
 use Rattle.gapped_slices.specs.declared.areas.Area.{Area}
 use Rattle.model.specs.Map.{Map, find, put, Ascending}
-use Rattle.building.specs.declared.seeking.Sought.{Sought}
 use Rattle.building.specs.declared.stores.Store.{Store}
 use Rattle.building.specs.declared.stores.Way.{Way}
 use Rattle.building.specs.declared.stores.Way.TheVariants.{Main, Pocket, Emptied}
@@ -54,6 +51,11 @@ pub record Apart {W : Type 0} (In : Area → Map W → Type 0) (room : ℕ) (s :
   pub pocket : Kept In s.pocket second
   pub ascending : Ascending m
   pub parted : Parted first second m
+
+-- by what a look says where it goes, or is
+abbrev pub place_of : Result ℕ ℕ → ℕ
+place_of (Ok i) = i
+place_of (Err i) = i
 
 -- ---- the credit: it decides the way of an entry, and any way is right
 
@@ -112,17 +114,17 @@ pub record MakesRoom {W : Type 0} (Same : Type 0) (Long : ℕ → Type 0) (In In
 -- a new entry put in; at is its index in main
 pub record PutsNew {W : Type 0} (Same : Type 0) (Long : ℕ → Type 0) (In In' : Area → Map W → Type 0) (room : ℕ) (s : Store) (at k : ℕ) (v : W) (r : Store) : Type 0 where
   pub same : Same
-  pub apart : (m : Map W) → Long room → (h : Apart In room s m) → length m < room → find k m ≡ none → Before at ≡ place_in ltb k (keys_of h.first) → Apart In' room r (put k (λ o. v) m)
+  pub apart : (m : Map W) → Long room → (h : Apart In room s m) → length m < room → find k m ≡ none → Err at ≡ place_in ltb k (keys_of h.first) → Apart In' room r (put k (λ o. v) m)
 
--- ---- where a key is, or goes in main
+-- ---- where a key is, or as an error where it goes in main
 
-abbrev pub sought_by : Store → Place → Place → Sought
-sought_by s (At i) q = record { new = false; at = stand_of s.main i }
-sought_by s (Before i) (At j) = record { new = false; at = stand_of s.pocket j }
-sought_by s (Before i) (Before j) = record { new = true; at = i }
+abbrev pub sought_by : Store → Result ℕ ℕ → Result ℕ ℕ → Result ℕ ℕ
+sought_by s (Ok i) q = Ok (stand_of s.main i)
+sought_by s (Err i) (Ok j) = Ok (stand_of s.pocket j)
+sought_by s (Err i) (Err j) = Err i
 
 -- what a look for c in both areas says, where their entries ascend
-abbrev pub Seeks : {A : Type 0} → (A → A → Bool) → List A → List A → A → Store → Sought → Type 0
+abbrev pub Seeks : {A : Type 0} → (A → A → Bool) → List A → List A → A → Store → Result ℕ ℕ → Type 0
 Seeks less main pocket c s r = Places.Ascending less main → Places.Ascending less pocket → r ≡ sought_by s (place_in less c main) (place_in less c pocket)
 
 -- ---- all of them at the front
@@ -132,7 +134,7 @@ pub record Gathered {W : Type 0} (Same : Type 0) (Long : ℕ → Type 0) (In : A
   pub front : (room : ℕ) (m : Map W) → Long room → Apart In room s m → Front m
 
 -- a record put in that was looked for: what it is, is made of what it was, where it was met before
-pub record Puts {W : Type 0} (Same : Type 0) (Long : ℕ → Type 0) (In In' : Area → Map W → Type 0) (room : ℕ) (s : Store) (sought : Sought) (k : ℕ) (f : Option W → W) (r : Store) : Type 0 where
+pub record Puts {W : Type 0} (Same : Type 0) (Long : ℕ → Type 0) (In In' : Area → Map W → Type 0) (room : ℕ) (s : Store) (sought : Result ℕ ℕ) (k : ℕ) (f : Option W → W) (r : Store) : Type 0 where
   pub same : Same
   pub apart : (m : Map W) → Long room → (h : Apart In room s m) → sought ≡ sought_by s (place_in ltb k (keys_of h.first)) (place_in ltb k (keys_of h.second))
-      → (sought.new ≡ true → length m < room) → Apart In' room r (put k f m)
+      → (is_err sought ≡ true → length m < room) → Apart In' room r (put k f m)

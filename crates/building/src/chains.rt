@@ -3,20 +3,15 @@ ghost use Rattle.std.specs.Prelude.{◌≡◌, ◌+◌, ◌≤◌, length, take,
 ghost use Rattle.model.specs.Chains.{chain_place};
 ghost use Rattle.building.specs.Slices.{ChainFound};
 
-use field_slices::smaller;
-
-// The walk over the first n chains, from this one on.
+// The walk over the first n chains, from this one on: by index, as the place is what it gives, in both halves.
 fn walk(chains: &[u64], n: usize, from: usize, name: u64) -> usize
     requires { (n ≤ length chains.now) × (from ≤ n) }
     ensures { result ≡ from + chain_place name (drop from (take n chains.now)) }
 {
-    let mut i = from;
-    while i < n {
-        let met = chains[i];
-        if met == name {
+    for i in from..n {
+        if chains[i] == name {
             return i;
         }
-        i += 1;
     }
     n
 }
@@ -26,8 +21,8 @@ fn walk(chains: &[u64], n: usize, from: usize, name: u64) -> usize
 pub fn chain_place(chains: &[u64], n: usize, name: u64, last: usize) -> usize
     ensures { ChainFound (take n chains.now) name result }
 {
-    let count = smaller(n, chains.len());
-    let from = smaller(last, count);
+    let count = n.min(chains.len());
+    let from = last.min(count);
     let place = walk(chains, count, from, name);
     if place < count {
         return place;

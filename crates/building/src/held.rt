@@ -1,5 +1,5 @@
 // What is held while rows are read: the counts, and where the records of each kind stand in their slices.
-ghost use Rattle.std.specs.Prelude.{◌≡◌, ◌-◌};
+ghost use Rattle.std.specs.Prelude.{◌≡◌};
 ghost use Rattle.building.specs.Gaps.{none_held};
 
 use crate::sites::Counts;
@@ -29,14 +29,4 @@ pub fn none_held() -> Held
         residues: no_store(),
         atoms: no_store(),
     }
-}
-
-// How many are left without so many of them; none where there are fewer.
-pub(crate) fn rest(many: usize, without: usize) -> usize
-    ensures { result ≡ many - without }
-{
-    if many < without {
-        return 0;
-    }
-    many - without
 }

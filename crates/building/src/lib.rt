@@ -2,7 +2,6 @@
 #![tactic(auto)]
 
 mod atoms;
-mod bytes;
 mod chains;
 mod gathering;
 mod held;
@@ -15,4 +14,4 @@ mod stores;
 pub use chains::chain_place;
 pub use gathering::gather;
 pub use held::{Held, none_held};
-pub use sites::{Counts, Put, put_site, sizes_of, skip_row};
+pub use sites::{Counts, put_site, sizes_of, skip_row};

@@ -1,126 +1,126 @@
-// The residues in their slices, one to a field, in the two areas of a store.
-ghost use Rattle.std.specs.Prelude.{◌≡◌};
-ghost use Rattle.gapped_slices.specs.Areas.{PutsIn};
+// The residues in their slices, one to a field, in the two areas of a store. While rows are read the HETATM marks stand where the categories will.
 ghost use Rattle.model.specs.Fold.{Residue};
-ghost use Rattle.model.specs.Lists.{count};
-ghost use Rattle.building.specs.Kinds.{residues_by, ResiduesIn, ResiduesFirst, ResiduesLong, ResiduesSame};
+ghost use Rattle.building.specs.Kinds.{residues_now, residue_entry_at, IsResidue, KeepsResidues, ResiduesIn, ResiduesFirst, ResiduesLong, ResiduesSame, ResidueSpotted, PutsResidue};
 ghost use Rattle.building.specs.Stores.{Empties, MakesRoom, PutsNew, Gathered};
+ghost use Rattle.std.specs.Prelude.{◌≡◌};
 
-use crate::bytes::u8_at;
 use crate::stores::{
-    Store, Way, emptied, entries_of, in_main, in_pocket, way_of, widened, with_entry,
+    Store, Way, emptied, entries_of, in_main, in_pocket, place_of, way_of, widened, with_entry,
 };
-use field_slices::u64_at;
-use gapped_slices::{Area, move_in_u8, move_in_u64, put_in_u8, put_in_u64, spot_in_key, stand};
+use field_slices::entry_at;
+use gapped_slices::{Area, move_in, put_in, spot_in_key, stand};
+use model::ResiduesMut;
+
+// A residue as its slices have it.
+#[derive(Clone, Copy)]
+pub(crate) struct ResidueEntry {
+    pub key: u64,
+    pub name: u64,
+    pub mark: u8,
+}
 
 // One more in an area, at this index.
-fn put_in(
-    keys: &mut [u64],
-    names: &mut [u64],
-    marks: &mut [u8],
-    area: Area,
-    at: usize,
-    key: u64,
-    name: u64,
-    mark: u8,
-)
-    ensures puts_in { PutsIn area at key keys.old keys.new }
-    ensures puts_in_2 { PutsIn area at name names.old names.new }
-    ensures puts_in_3 { PutsIn area at mark marks.old marks.new }
+fn put_residue(residues: &mut ResiduesMut<'_>, area: Area, at: usize, residue: ResidueEntry)
+    ensures same { KeepsResidues residues.old residues.new }
+    ensures puts { PutsResidue area at residue (residues_now residues.old) (residues_now residues.new) }
 {
-    put_in_u64(keys, area, at, key);
-    put_in_u64(names, area, at, name);
-    put_in_u8(marks, area, at, mark);
+    put_in(residues.keys, area, at, residue.key);
+    put_in(residues.names, area, at, residue.name);
+    put_in(residues.categories, area, at, residue.mark);
+}
+
+// The residue at this index of the slices, zero in each field where there is none.
+fn residue_at(residues: &ResiduesMut<'_>, at: usize) -> ResidueEntry
+    ensures { result ≡ residue_entry_at (residues_now residues.now) at }
+{
+    ResidueEntry {
+        key: entry_at(residues.keys, at, 0),
+        name: entry_at(residues.names, at, 0),
+        mark: entry_at(residues.categories, at, 0),
+    }
+}
+
+// Where a residue is in an area, or as an error where it goes.
+pub(crate) fn residue_spot(residues: &ResiduesMut<'_>, area: Area, key: u64) -> Result<usize, usize>
+    ensures { ResidueSpotted (residues_now residues.now) area key result }
+{
+    spot_in_key(residues.keys, area, key)
 }
 
 // Those of the pocket go over into main in their order, in one sweep of its gap.
-fn empty_pocket(keys: &mut [u64], names: &mut [u64], marks: &mut [u8], store: Store) -> Store
-    ensures { let l = residues_by keys names marks in
-        Empties (ResiduesSame l.entry l.exit) (ResiduesLong l.entry) (ResiduesIn l.entry) (ResiduesIn l.exit) store result }
+fn empty_pocket(residues: &mut ResiduesMut<'_>, store: Store) -> Store
+    ensures same { KeepsResidues residues.old residues.new }
+    ensures empties { let r = residues_now residues.old in let after = residues_now residues.new in
+        Empties (ResiduesSame r after) (ResiduesLong r) (ResiduesIn r) (ResiduesIn after) store result }
 {
     let pocket = store.pocket;
     let many = entries_of(pocket);
     let mut main = store.main;
-    let mut k = 0;
-    while k < many {
-        let at = stand(pocket, k);
-        let key = u64_at(keys, at);
-        let name = u64_at(names, at);
-        let mark = u8_at(marks, at);
-        let spot = spot_in_key(keys, main, key);
-        put_in(keys, names, marks, main, spot.front, key, name, mark);
-        main = with_entry(main, spot.front);
-        k += 1;
+    for k in 0..many {
+        let from = stand(pocket, k);
+        let residue = residue_at(residues, from);
+        let at = place_of(residue_spot(residues, main, residue.key));
+        put_residue(residues, main, at, residue);
+        main = with_entry(main, at);
     }
     Store {
         main,
         pocket: emptied(pocket),
-        credit: store.credit,
+        ..store
     }
 }
 
 // Room in main for one more.
-fn make_room(
-    keys: &mut [u64],
-    names: &mut [u64],
-    marks: &mut [u8],
-    room: usize,
-    store: Store,
-) -> Store
-    ensures { let l = residues_by keys names marks in
-        MakesRoom (ResiduesSame l.entry l.exit) (ResiduesLong l.entry) (ResiduesIn l.entry) (ResiduesIn l.exit) room store result }
+fn make_room(residues: &mut ResiduesMut<'_>, room: usize, store: Store) -> Store
+    ensures same { KeepsResidues residues.old residues.new }
+    ensures makes { let r = residues_now residues.old in let after = residues_now residues.new in
+        MakesRoom (ResiduesSame r after) (ResiduesLong r) (ResiduesIn r) (ResiduesIn after) room store result }
 {
-    let store = empty_pocket(keys, names, marks, store);
+    let store = empty_pocket(residues, store);
     widened(store, room)
 }
 
 // A new residue; at is its index in main.
 pub(crate) fn put_new_residue(
-    keys: &mut [u64],
-    names: &mut [u64],
-    marks: &mut [u8],
+    residues: &mut ResiduesMut<'_>,
     room: usize,
     store: Store,
     at: usize,
-    key: u64,
-    name: u64,
-    mark: u8,
+    residue: ResidueEntry,
 ) -> Store
-    ensures { (v : Residue) → name ≡ v.name → mark ≡ count v.hetatm → let l = residues_by keys names marks in
-        PutsNew (ResiduesSame l.entry l.exit) (ResiduesLong l.entry) (ResiduesIn l.entry) (ResiduesIn l.exit) room store at key v result }
+    ensures same { KeepsResidues residues.old residues.new }
+    ensures puts { (v : Residue) → IsResidue residue v → let r = residues_now residues.old in let after = residues_now residues.new in
+        PutsNew (ResiduesSame r after) (ResiduesLong r) (ResiduesIn r) (ResiduesIn after) room store at residue.key v result }
 {
-    let way = way_of(store, at);
-    match way {
+    match way_of(store, at) {
         Way::Main => {
-            let main = store.main;
-            put_in(keys, names, marks, main, at, key, name, mark);
+            put_residue(residues, store.main, at, residue);
             in_main(store, at)
         }
         Way::Pocket => {
-            let pocket = store.pocket;
-            let spot = spot_in_key(keys, pocket, key);
-            put_in(keys, names, marks, pocket, spot.front, key, name, mark);
-            in_pocket(store, spot.front)
+            let at = place_of(residue_spot(residues, store.pocket, residue.key));
+            put_residue(residues, store.pocket, at, residue);
+            in_pocket(store, at)
         }
         Way::Emptied => {
-            let store = make_room(keys, names, marks, room, store);
-            let main = store.main;
-            let spot = spot_in_key(keys, main, key);
-            put_in(keys, names, marks, main, spot.front, key, name, mark);
-            in_main(store, spot.front)
+            let store = make_room(residues, room, store);
+            let at = place_of(residue_spot(residues, store.main, residue.key));
+            put_residue(residues, store.main, at, residue);
+            in_main(store, at)
         }
     }
 }
 
 // All of them to the front.
-pub(crate) fn gather_residues(keys: &mut [u64], names: &mut [u64], marks: &mut [u8], store: Store)
-    ensures { let l = residues_by keys names marks in
-        Gathered (ResiduesSame l.entry l.exit) (ResiduesLong l.entry) (ResiduesIn l.entry) (ResiduesFirst l.exit) store }
+pub(crate) fn gather_residues(residues: &mut ResiduesMut<'_>, store: Store)
+    ensures same { KeepsResidues residues.old residues.new }
+    ensures gathered { let r = residues_now residues.old in let after = residues_now residues.new in
+        Gathered (ResiduesSame r after) (ResiduesLong r) (ResiduesIn r) (ResiduesFirst after) store }
 {
-    let store = empty_pocket(keys, names, marks, store);
+    let store = empty_pocket(residues, store);
     let main = store.main;
     let many = entries_of(main);
-    move_in_u64(keys, main, many);
-    move_in_u64(names, main, many);
-    move_in_u8(marks, main, many);
+    move_in(residues.keys, main, many);
+    move_in(residues.names, main, many);
+    move_in(residues.categories, main, many);
 }

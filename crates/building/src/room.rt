@@ -6,8 +6,5 @@ ghost use Rattle.model.specs.Room.{no_room};
 pub(crate) fn has_no_room(new: bool, room: usize, many: usize) -> bool
     ensures { result ≡ no_room new room many }
 {
-    if new {
-        return room <= many;
-    }
-    false
+    new && room <= many
 }

@@ -1,82 +1,56 @@
-// Where a record is that was met before, or its index in main where it is new: a look in main, and where it is not there in the pocket, which
-// is nearly always empty.
-ghost use Rattle.std.specs.Prelude.{◌≡◌, ltb, length};
-ghost use Rattle.field_slices.specs.Places.{pairs, below};
-ghost use Rattle.gapped_slices.specs.Areas.{Lies, entries_in};
-ghost use Rattle.building.specs.Stores.{Seeks};
+// Where a record stands in the slices that was met before, or as an error, where it is new, its index among the entries of main: a look in
+// main, and where it is not there in the pocket, which is nearly always empty.
+ghost use Rattle.building.specs.Kinds.{residues_now, ResidueSought, atoms_now, AtomSought};
 
-use crate::held::rest;
+use crate::atoms::atom_spot;
+use crate::residues::residue_spot;
 use crate::stores::{Store, entries_of};
-use gapped_slices::{spot_in, spot_in_key, stand};
+use gapped_slices::stand;
+use model::{AtomsMut, ResiduesMut};
 
-#[derive(Clone, Copy)]
-pub struct Sought {
-    pub new: bool,
-    // Where it stands in the slices; where it is new, its index among the entries of main.
-    pub at: usize,
-}
-
-pub(crate) fn seek_residue(keys: &[u64], store: Store, key: u64) -> Sought
-    ensures { let k = keys.now in Lies store.main (length k) → Lies store.pocket (length k)
-        → Seeks ltb (entries_in store.main k) (entries_in store.pocket k) key store result }
+pub(crate) fn seek_residue(
+    residues: &ResiduesMut<'_>,
+    store: Store,
+    key: u64,
+) -> Result<usize, usize>
+    ensures { ResidueSought (residues_now residues.now) store key result }
 {
     let main = store.main;
     let pocket = store.pocket;
-    let spot = spot_in_key(keys, main, key);
-    if !spot.new {
-        return Sought {
-            new: false,
-            at: stand(main, rest(spot.front, 1)),
-        };
-    }
-    if entries_of(pocket) == 0 {
-        return Sought {
-            new: true,
-            at: spot.front,
-        };
-    }
-    let other = spot_in_key(keys, pocket, key);
-    if !other.new {
-        return Sought {
-            new: false,
-            at: stand(pocket, rest(other.front, 1)),
-        };
-    }
-    Sought {
-        new: true,
-        at: spot.front,
+    match residue_spot(residues, main, key) {
+        Ok(i) => Ok(stand(main, i)),
+        Err(at) => {
+            if entries_of(pocket) == 0 {
+                return Err(at);
+            }
+            match residue_spot(residues, pocket, key) {
+                Ok(i) => Ok(stand(pocket, i)),
+                Err(_) => Err(at),
+            }
+        }
     }
 }
 
-pub(crate) fn seek_atom(keys: &[u64], names: &[u64], store: Store, key: u64, name: u64) -> Sought
-    ensures { let k = keys.now in let n = names.now in
-        Lies store.main (length k) → Lies store.main (length n) → Lies store.pocket (length k) → Lies store.pocket (length n)
-        → Seeks below (pairs (entries_in store.main k) (entries_in store.main n)) (pairs (entries_in store.pocket k) (entries_in store.pocket n)) (key, name) store result }
+pub(crate) fn seek_atom(
+    atoms: &AtomsMut<'_>,
+    store: Store,
+    key: u64,
+    name: u64,
+) -> Result<usize, usize>
+    ensures { AtomSought (atoms_now atoms.now) store key name result }
 {
     let main = store.main;
     let pocket = store.pocket;
-    let spot = spot_in(keys, names, main, key, name);
-    if !spot.new {
-        return Sought {
-            new: false,
-            at: stand(main, rest(spot.front, 1)),
-        };
-    }
-    if entries_of(pocket) == 0 {
-        return Sought {
-            new: true,
-            at: spot.front,
-        };
-    }
-    let other = spot_in(keys, names, pocket, key, name);
-    if !other.new {
-        return Sought {
-            new: false,
-            at: stand(pocket, rest(other.front, 1)),
-        };
-    }
-    Sought {
-        new: true,
-        at: spot.front,
+    match atom_spot(atoms, main, key, name) {
+        Ok(i) => Ok(stand(main, i)),
+        Err(at) => {
+            if entries_of(pocket) == 0 {
+                return Err(at);
+            }
+            match atom_spot(atoms, pocket, key, name) {
+                Ok(i) => Ok(stand(pocket, i)),
+                Err(_) => Err(at),
+            }
+        }
     }
 }

@@ -1,22 +1,22 @@
 // A site put into the records: its residue and its atom at its chain's place, where there is room for what is new of them.
-ghost use Rattle.std.specs.Prelude.{◌≡◌, List, ℕ, take};
+ghost use Rattle.std.specs.Prelude.{◌≡◌, List, ℕ, take, set};
 ghost use Rattle.model.specs.Fold.{first, greater};
 ghost use Rattle.model.specs.Keys.{atom_place};
-ghost use Rattle.model.specs.Lists.{count};
 ghost use Rattle.model.specs.Lent.{coordinates};
-ghost use Rattle.building.specs.Holds.{records_by, sizes_of};
-ghost use Rattle.building.specs.Kinds.{residues_by, ResiduesIn, ResiduesLong, ResiduesSame, atoms_by, AtomsIn, AtomsLong, AtomsSame};
-ghost use Rattle.building.specs.Sites.{SoughtFor, lack_of, with_place, one_more, counts_with, with_skipped, Did};
+ghost use Rattle.model.specs.LentNow.{SameAtoms};
+ghost use Rattle.building.specs.Holds.{records_now, sizes_of, SameLengths};
+ghost use Rattle.building.specs.Kinds.{residues_now, KeepsResidues, ResiduesIn, ResiduesLong, ResiduesSame, atoms_now, AtomsIn, AtomsLong, AtomsSame};
+ghost use Rattle.building.specs.Sites.{SoughtFor, lack_of, residue_entry, atom_entry, one_more, counts_with, with_skipped, Did};
 ghost use Rattle.building.specs.Slices.{ChainFound};
 ghost use Rattle.building.specs.Stores.{Puts};
 
-use crate::atoms::{put_new_atom, replace_atom};
+use crate::atoms::{AtomEntry, put_new_atom, replace_atom};
 use crate::held::Held;
-use crate::residues::put_new_residue;
+use crate::residues::{ResidueEntry, put_new_residue};
 use crate::room::has_no_room;
-use crate::seeking::{Sought, seek_atom, seek_residue};
+use crate::seeking::{seek_atom, seek_residue};
 use crate::stores::Store;
-use model::{Lack, Room, residue_key};
+use model::{AtomsMut, ResiduesMut, Room, residue_key};
 use refusals::RecordKind;
 use rows::{Point3, Site};
 
@@ -42,72 +42,63 @@ pub fn sizes_of(counts: Counts) -> Room
     }
 }
 
-#[derive(Clone, Copy)]
-pub enum Put {
-    // What the site has no room for. Nothing has changed.
-    NoRoom(RecordKind),
-    Done(Held),
-}
-
-// Where a site goes.
+// Where a site goes: the chain's place, the residue's key, and where residue and atom stand, or as an error go in main where they are new.
 #[derive(Clone, Copy)]
 pub struct Places {
     pub chain: usize,
     pub key: u64,
-    pub residue: Sought,
-    pub atom: Sought,
+    pub residue: Result<usize, usize>,
+    pub atom: Result<usize, usize>,
 }
 
 // ---- where it goes
 
 fn places_of(
-    residue_keys: &[u64],
-    atom_keys: &[u64],
-    atom_names: &[u64],
+    residues: &ResiduesMut<'_>,
+    atoms: &AtomsMut<'_>,
     held: Held,
     place: usize,
     site: Site,
 ) -> Places
-    ensures { SoughtFor residue_keys.now atom_keys.now atom_names.now held place site result }
+    ensures { SoughtFor (residues_now residues.now) (atoms_now atoms.now) held place site result }
 {
     let key = residue_key(place, site.sequence, site.insertion_code);
-    let residues = held.residues;
-    let residue = seek_residue(residue_keys, residues, key);
-    let atoms = held.atoms;
-    let atom = seek_atom(atom_keys, atom_names, atoms, key, site.atom);
     Places {
         chain: place,
-        key: key,
-        residue: residue,
-        atom: atom,
+        key,
+        residue: seek_residue(residues, held.residues, key),
+        atom: seek_atom(atoms, held.atoms, key, site.atom),
     }
 }
 
 // ---- whether there is room
 
-fn lack_of(room: Room, counts: Counts, places: Places) -> Lack
+fn lack_of(room: Room, counts: Counts, places: Places) -> Option<RecordKind>
     ensures { result ≡ lack_of room counts places }
 {
     if has_no_room(counts.chains <= places.chain, room.chains, counts.chains) {
-        return Lack::Of(RecordKind::Chain);
+        return Some(RecordKind::Chain);
     }
-    let residue = places.residue;
-    if has_no_room(residue.new, room.residues, counts.residues) {
-        return Lack::Of(RecordKind::Residue);
+    if has_no_room(places.residue.is_err(), room.residues, counts.residues) {
+        return Some(RecordKind::Residue);
     }
-    let atom = places.atom;
-    if has_no_room(atom.new, room.atoms, counts.atoms) {
-        return Lack::Of(RecordKind::Atom);
+    if has_no_room(places.atom.is_err(), room.atoms, counts.atoms) {
+        return Some(RecordKind::Atom);
     }
-    Lack::Nothing
+    None
 }
 
 // ---- what it leaves
 
-fn mark_of(hetatm: bool) -> u8
-    ensures { result ≡ count hetatm }
+// What a site says of its residue, whose key it is: the HETATM mark as a number.
+fn residue_entry(key: u64, site: Site) -> ResidueEntry
+    ensures { result ≡ residue_entry key site }
 {
-    if hetatm { 1 } else { 0 }
+    ResidueEntry {
+        key,
+        name: site.residue,
+        mark: site.hetatm as u8,
+    }
 }
 
 fn point_of(p: Point3) -> [f64; 3]
@@ -116,31 +107,36 @@ fn point_of(p: Point3) -> [f64; 3]
     [p.x, p.y, p.z]
 }
 
+// What a site says of its atom.
+fn atom_entry(key: u64, site: Site) -> AtomEntry
+    ensures { result ≡ atom_entry key site }
+{
+    AtomEntry {
+        key,
+        name: site.atom,
+        element: site.element,
+        position: point_of(site.position),
+        occupancy: site.occupancy,
+    }
+}
+
 // One more where that is so, up to the greatest number that there is.
 fn one_more(more: bool, n: usize) -> usize
     ensures { result ≡ one_more more n }
 {
-    if !more {
-        return n;
-    }
-    if 18446744073709551615 <= n {
-        return n;
-    }
-    n + 1
+    n.saturating_add(more as usize)
 }
 
 fn counts_with(counts: Counts, places: Places, assumed: bool) -> Counts
     ensures { result ≡ counts_with counts places assumed }
 {
-    let residue = places.residue;
-    let atom = places.atom;
     Counts {
         chains: one_more(counts.chains <= places.chain, counts.chains),
-        residues: one_more(residue.new, counts.residues),
-        atoms: one_more(atom.new, counts.atoms),
+        residues: one_more(places.residue.is_err(), counts.residues),
+        atoms: one_more(places.atom.is_err(), counts.atoms),
         rows: one_more(true, counts.rows),
         skipped: counts.skipped,
-        outdone: one_more(!atom.new, counts.outdone),
+        outdone: one_more(places.atom.is_ok(), counts.outdone),
         assumed: one_more(assumed, counts.assumed),
     }
 }
@@ -150,149 +146,81 @@ pub fn skip_row(held: Held) -> Held
     ensures { result ≡ with_skipped held }
 {
     let counts = held.counts;
-    let residues = held.residues;
-    let atoms = held.atoms;
     Held {
         counts: Counts {
-            chains: counts.chains,
-            residues: counts.residues,
-            atoms: counts.atoms,
             rows: one_more(true, counts.rows),
             skipped: one_more(true, counts.skipped),
-            outdone: counts.outdone,
-            assumed: counts.assumed,
+            ..counts
         },
-        residues,
-        atoms,
+        ..held
     }
 }
 
 // A residue that was met before keeps what its first row said.
 fn store_residue(
-    keys: &mut [u64],
-    names: &mut [u64],
-    marks: &mut [u8],
+    residues: &mut ResiduesMut<'_>,
     room: usize,
     store: Store,
     places: Places,
     site: Site,
 ) -> Store
-    ensures { let l = residues_by keys names marks in
-        Puts (ResiduesSame l.entry l.exit) (ResiduesLong l.entry) (ResiduesIn l.entry) (ResiduesIn l.exit) room store places.residue places.key (first site) result }
+    ensures same { KeepsResidues residues.old residues.new }
+    ensures puts { let r = residues_now residues.old in let after = residues_now residues.new in
+        Puts (ResiduesSame r after) (ResiduesLong r) (ResiduesIn r) (ResiduesIn after) room store places.residue places.key (first site) result }
 {
-    let residue = places.residue;
-    if !residue.new {
-        return store;
+    match places.residue {
+        Ok(_) => store,
+        Err(at) => put_new_residue(residues, room, store, at, residue_entry(places.key, site)),
     }
-    let mark = mark_of(site.hetatm);
-    put_new_residue(
-        keys,
-        names,
-        marks,
-        room,
-        store,
-        residue.at,
-        places.key,
-        site.residue,
-        mark,
-    )
 }
 
 // An atom that was met before is replaced only by one with a strictly greater occupancy.
 fn store_atom(
-    keys: &mut [u64],
-    names: &mut [u64],
-    elements: &mut [u8],
-    positions: &mut [[f64; 3]],
-    occupancies: &mut [f64],
+    atoms: &mut AtomsMut<'_>,
     room: usize,
     store: Store,
     places: Places,
     site: Site,
 ) -> Store
-    ensures { let l = atoms_by keys names elements positions occupancies in
-        Puts (AtomsSame l.entry l.exit) (AtomsLong l.entry) (AtomsIn l.entry) (AtomsIn l.exit) room store places.atom (atom_place places.key site.atom) (greater site) result }
+    ensures same { SameAtoms atoms.old atoms.new }
+    ensures puts { let r = atoms_now atoms.old in let after = atoms_now atoms.new in
+        Puts (AtomsSame r after) (AtomsLong r) (AtomsIn r) (AtomsIn after) room store places.atom (atom_place places.key site.atom) (greater site) result }
 {
-    let atom = places.atom;
-    let point = point_of(site.position);
-    if !atom.new {
-        replace_atom(
-            elements,
-            positions,
-            occupancies,
-            atom.at,
-            site.element,
-            point,
-            site.occupancy,
-        );
-        return store;
+    let atom = atom_entry(places.key, site);
+    match places.atom {
+        Ok(at) => {
+            replace_atom(atoms, at, atom);
+            store
+        }
+        Err(at) => put_new_atom(atoms, room, store, at, atom),
     }
-    put_new_atom(
-        keys,
-        names,
-        elements,
-        positions,
-        occupancies,
-        room,
-        store,
-        atom.at,
-        places.key,
-        site.atom,
-        site.element,
-        point,
-        site.occupancy,
-    )
 }
 
 // Step 8: room for the chain, then the residue, then the atom; then residue and atom are put in. The site's chain stands at this place of the
-// chain list, which is its end where the chain is new; the list gets the name there from whoever holds it.
+// chain list, which is its end where the chain is new; the list gets the name there from whoever holds it. The error is what has no room, and then
+// residues and atoms are as they were.
 pub fn put_site(
-    residue_keys: &mut [u64],
-    residue_names: &mut [u64],
-    residue_marks: &mut [u8],
-    atom_keys: &mut [u64],
-    atom_names: &mut [u64],
-    elements: &mut [u8],
-    positions: &mut [[f64; 3]],
-    occupancies: &mut [f64],
+    residues: &mut ResiduesMut<'_>,
+    atoms: &mut AtomsMut<'_>,
     room: Room,
     held: Held,
     place: usize,
     site: Site,
-) -> Put
-    ensures { (chains : List ℕ) → ChainFound (take held.counts.chains chains) site.chain place →
-        let l = records_by (with_place chains place site.chain) residue_keys residue_names residue_marks atom_keys atom_names elements positions occupancies in
-        Did l.entry room held site result l.exit }
+) -> Result<Held, RecordKind>
+    ensures same { KeepsResidues residues.old residues.new }
+    ensures same_atoms { SameAtoms atoms.old atoms.new }
+    ensures lengths { (chains : List ℕ) → SameLengths (records_now chains residues.old atoms.old) (records_now chains residues.new atoms.new) }
+    ensures did { (chains : List ℕ) → ChainFound (take held.counts.chains chains) site.chain place →
+        Did (records_now chains residues.old atoms.old) room held site result (records_now (set chains place site.chain) residues.new atoms.new) }
 {
-    let places = places_of(residue_keys, atom_keys, atom_names, held, place, site);
+    let places = places_of(residues, atoms, held, place, site);
     let counts = held.counts;
-    let lack = lack_of(room, counts, places);
-    if let Lack::Of(kind) = lack {
-        return Put::NoRoom(kind);
+    if let Some(kind) = lack_of(room, counts, places) {
+        return Err(kind);
     }
-    let residues = store_residue(
-        residue_keys,
-        residue_names,
-        residue_marks,
-        room.residues,
-        held.residues,
-        places,
-        site,
-    );
-    let atoms = store_atom(
-        atom_keys,
-        atom_names,
-        elements,
-        positions,
-        occupancies,
-        room.atoms,
-        held.atoms,
-        places,
-        site,
-    );
-    Put::Done(Held {
+    Ok(Held {
         counts: counts_with(counts, places, site.assumed),
-        residues,
-        atoms,
+        residues: store_residue(residues, room.residues, held.residues, places, site),
+        atoms: store_atom(atoms, room.atoms, held.atoms, places, site),
     })
 }

@@ -2,18 +2,14 @@
 // it in the pocket behind. A full pocket is emptied into main, in one sweep of its gap, so that no order of rows costs more than a few moves of main's gap.
 ghost use Rattle.std.specs.Prelude.{◌≡◌, ℕ, suc, ◌-◌, ◌^◌, ◌≤◌, ◌<◌, ltb};
 ghost use Rattle.gapped_slices.specs.Areas.{many, one_more_at};
-ghost use Rattle.building.specs.Stores.{no_store, emptied_area, distance_to, is_far, earned_with, Lays, InMain, InPocket, Leads, Widened};
+ghost use Rattle.building.specs.Stores.{no_store, emptied_area, place_of, is_far, earned_with, Lays, InMain, InPocket, Leads, Widened};
 
-use crate::held::rest;
-use field_slices::smaller;
 use gapped_slices::Area;
 
 // The greatest pocket, and how many moves of main's gap each new entry earns.
 const POCKET: usize = 2048;
 
 const EARNED: usize = 16;
-
-const GREATEST: usize = 18446744073709551615;
 
 #[derive(Clone, Copy)]
 pub struct Store {
@@ -57,20 +53,16 @@ pub(crate) fn no_store() -> Store
 pub(crate) fn entries_of(area: Area) -> usize
     ensures { many area < 2 ^ 64 → result ≡ many area }
 {
-    if GREATEST - area.front < area.behind {
-        return GREATEST;
-    }
-    area.front + area.behind
+    area.front.saturating_add(area.behind)
 }
 
 pub(crate) fn emptied(area: Area) -> Area
     ensures { result ≡ emptied_area area }
 {
     Area {
-        from: area.from,
-        to: area.to,
         front: 0,
         behind: 0,
+        ..area
     }
 }
 
@@ -78,46 +70,37 @@ pub(crate) fn emptied(area: Area) -> Area
 pub(crate) fn with_entry(area: Area, at: usize) -> Area
     ensures { suc (many area) < 2 ^ 64 → at ≤ many area → result ≡ one_more_at area at }
 {
-    let n = entries_of(area);
-    if n == GREATEST {
-        return area;
-    }
-    if n < at {
-        return area;
-    }
     Area {
-        from: area.from,
-        to: area.to,
-        front: at + 1,
-        behind: n - at,
+        front: at.saturating_add(1),
+        behind: entries_of(area).saturating_sub(at),
+        ..area
+    }
+}
+
+// Where an entry goes by what a look for it says; the same as one that is there, where there is one.
+pub(crate) fn place_of(spot: Result<usize, usize>) -> usize
+    ensures { result ≡ place_of spot }
+{
+    match spot {
+        Ok(i) => i,
+        Err(i) => i,
     }
 }
 
 // ---- the way of a new entry
 
-// How far main's gap is from this index.
-fn distance(front: usize, at: usize) -> usize
-    ensures { result ≡ distance_to front at }
-{
-    if at < front {
-        return front - at;
-    }
-    at - front
-}
-
 // Whether an entry at this index of main lies further from its gap than was earned.
 fn is_far(store: Store, at: usize) -> bool
     ensures { result ≡ is_far store at }
 {
-    let main = store.main;
-    store.credit < distance(main.front, at)
+    store.credit < store.main.front.abs_diff(at)
 }
 
 // Whether there is room for one more beside so many.
 fn has_room(area: Area, n: usize) -> bool
     ensures { result ≡ ltb n (area.to - area.from) }
 {
-    n < rest(area.to, area.from)
+    n < area.to.saturating_sub(area.from)
 }
 
 // Main keeps room for all that is in the pocket. An entry near main's gap goes there, another into the pocket, and where neither has room the pocket is emptied first.
@@ -127,7 +110,7 @@ pub(crate) fn way_of(store: Store, at: usize) -> Way
     let main = store.main;
     let pocket = store.pocket;
     let many = entries_of(pocket);
-    if rest(main.to, entries_of(main)) <= many {
+    if main.to.saturating_sub(entries_of(main)) <= many {
         return Way::Emptied;
     }
     if !is_far(store, at) {
@@ -145,36 +128,27 @@ pub(crate) fn way_of(store: Store, at: usize) -> Way
 fn earned(credit: usize) -> usize
     ensures { result ≡ earned_with credit }
 {
-    if GREATEST - EARNED < credit {
-        return credit;
-    }
-    credit + EARNED
+    credit.checked_add(EARNED).unwrap_or(credit)
 }
 
 pub(crate) fn in_main(store: Store, at: usize) -> Store
     ensures { suc (many store.main) < 2 ^ 64 → at ≤ many store.main → InMain store at result }
 {
-    let main = store.main;
-    let pocket = store.pocket;
-    let far = distance(main.front, at);
-    let main = with_entry(main, at);
+    let far = store.main.front.abs_diff(at);
     Store {
-        main,
-        pocket,
-        credit: rest(earned(store.credit), far),
+        main: with_entry(store.main, at),
+        credit: earned(store.credit).saturating_sub(far),
+        ..store
     }
 }
 
 pub(crate) fn in_pocket(store: Store, at: usize) -> Store
     ensures { suc (many store.pocket) < 2 ^ 64 → at ≤ many store.pocket → InPocket store at result }
 {
-    let main = store.main;
-    let pocket = store.pocket;
-    let pocket = with_entry(pocket, at);
     Store {
-        main,
-        pocket,
+        pocket: with_entry(store.pocket, at),
         credit: earned(store.credit),
+        ..store
     }
 }
 
@@ -187,8 +161,8 @@ pub(crate) fn widened(store: Store, room: usize) -> Store
     if n < main.to {
         return store;
     }
-    let size = smaller(POCKET, rest(room, main.to) / 8);
-    let mid = rest(room, size);
+    let size = POCKET.min(room.saturating_sub(main.to) / 8);
+    let mid = room.saturating_sub(size);
     Store {
         main: Area {
             from: 0,

@@ -4,4 +4,4 @@ pub mod MapLaws
 pub mod OrderLaws
 pub mod PairLaws
 pub mod PlaceLaws
-pub mod SearchLaws
+pub mod RankLaws

@@ -6,8 +6,7 @@ use Prim.Native.Nat.{ℕ, zero, suc, ◌≤◌, ◌<◌}
 use native.Mathlib.Nat.{le_of_suc-le-suc, not-suc-le-zero}
 use native.Mathlib.Omega.{arith}
 use lib.ListN.{length, get_or}
-use Rattle.field_slices.specs.declared.places.Place.{Place}
-use Rattle.field_slices.specs.declared.places.Place.TheVariants.{At, Before}
+use Rattle.std.specs.Prelude.{Result, Ok, Err}
 use Rattle.field_slices.specs.Places.{Ascending, further, place_in, FirstBelow}
 use Rattle.field_slices.proofs.OrderLaws.{Order, asymmetric}
 
@@ -38,23 +37,23 @@ module _ {A : Type 0} {less : A → A → Bool} (o : Order less) (d : A) where
   tail_below : (c x : A) (l : List A) (i : ℕ) → FirstBelow less d c (x ∷ l) (suc i) → FirstBelow less d c l i
   tail_below c x l i b j h = b (suc j) (omega arith)
 
-  pub place_before : (c : A) (l : List A) (i : ℕ) → i ≤ length l → FirstBelow less d c l i → (i < length l → less c (get_or l i d) ≡ true) → place_in less c l ≡ Before i
+  pub place_before : (c : A) (l : List A) (i : ℕ) → i ≤ length l → FirstBelow less d c l i → (i < length l → less c (get_or l i d) ≡ true) → place_in less c l ≡ Err i
   unfolding place_in
   place_before c [] zero h b a = refl
   place_before c [] (suc i) h b a = absurd (not-suc-le-zero h)
   place_before c (x ∷ l) zero h b a = let e : less c x ≡ true = a (omega arith) in rw (asymmetric o c x e, e)
   place_before c (x ∷ l) (suc i) h b a = rw (b 0 (omega arith), place_before c l i (le_of_suc-le-suc h) (tail_below c x l i b) (λ k. a (omega arith)))
 
-  pub place_at : (c : A) (l : List A) (i : ℕ) → i < length l → FirstBelow less d c l i → get_or l i d ≡ c → place_in less c l ≡ At i
+  pub place_at : (c : A) (l : List A) (i : ℕ) → i < length l → FirstBelow less d c l i → get_or l i d ≡ c → place_in less c l ≡ Ok i
   unfolding place_in
   place_at c [] i h b e = absurd (not-suc-le-zero h)
   place_at c (x ∷ l) zero h b e = rw (e, o.irreflexive c)
   place_at c (x ∷ l) (suc i) h b e = rw (b 0 (omega arith), place_at c l i (le_of_suc-le-suc h) (tail_below c x l i b) e)
 
   -- what the answer says: `place_before` and `place_at` read the other way
-  abbrev pub Says : A → List A → Place → Type 0
-  Says c l (At i) = (i < length l) × (FirstBelow less d c l i × (get_or l i d ≡ c))
-  Says c l (Before i) = (i ≤ length l) × (FirstBelow less d c l i × (i < length l → less c (get_or l i d) ≡ true))
+  abbrev pub Says : A → List A → Result ℕ ℕ → Type 0
+  Says c l (Ok i) = (i < length l) × (FirstBelow less d c l i × (get_or l i d ≡ c))
+  Says c l (Err i) = (i ≤ length l) × (FirstBelow less d c l i × (i < length l → less c (get_or l i d) ≡ true))
 
   pub place_says : (c : A) (l : List A) → Says c l (place_in less c l)
   unfolding place_in
@@ -65,8 +64,8 @@ module _ {A : Type 0} {less : A → A → Bool} (o : Order less) (d : A) where
       next e b zero h = e
       next e b (suc j) h = b j (omega arith)
 
-      go : (t u : Bool) → less x c ≡ t → less c x ≡ u → (r : Place) → Says c l r → Says c (x ∷ l) (cond t (further r) (cond u (Before 0) (At 0)))
-      go true u e f (At i) s = (omega arith, (next e s.1.0, s.1.1))
-      go true u e f (Before i) s = (omega arith, (next e s.1.0, λ h. s.1.1 (omega arith)))
+      go : (t u : Bool) → less x c ≡ t → less c x ≡ u → (r : Result ℕ ℕ) → Says c l r → Says c (x ∷ l) (cond t (further r) (cond u (Err 0) (Ok 0)))
+      go true u e f (Ok i) s = (omega arith, (next e s.1.0, s.1.1))
+      go true u e f (Err i) s = (omega arith, (next e s.1.0, λ h. s.1.1 (omega arith)))
       go false true e f r s = (omega arith, ((λ j h. absurd (not-suc-le-zero h)), λ h. f))
       go false false e f r s = (omega arith, ((λ j h. absurd (not-suc-le-zero h)), o.same x c e f))

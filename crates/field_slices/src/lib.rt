@@ -6,7 +6,7 @@ mod entries;
 mod places;
 mod storing;
 
-pub use clearing::{clear_f64_from, clear_point_from, clear_u8_from, clear_u64_from};
-pub use entries::{f64_at, point_at, u64_at};
-pub use places::{Place, place_of_key, smaller};
-pub use storing::{store_f64, store_point, store_u8, store_u64};
+pub use clearing::clear_from;
+pub use entries::entry_at;
+pub use places::place_of_key;
+pub use storing::store;

@@ -6,20 +6,24 @@ use Prim.Native.Nat.{ℕ, suc, ◌+◌, ◌-◌, ◌≤◌, ◌<◌}
 use native.Mathlib.Nat.{le_refl, sub-zero}
 use native.Mathlib.Numerals.{add-one}
 use native.Mathlib.Omega.{arith}
-use lib.ListN.{get_or, set, drop}
+use lib.ListN.{length, get_or, set, drop}
+use Rattle.std.specs.Prelude.{Option, Some, None}
 use Rattle.model.specs.Classes.{class_of}
 use Rattle.model.specs.Neighbours.{lessers, alone_in}
 use Rattle.model.specs.declared.classes.Class.{Class}
 use Rattle.finishing.specs.Classing.{is_unknown_by, passed_at, class_at, unknown_at, first_place, Classified}
 use Rattle.finishing.specs.Filling.{filled}
-use Rattle.finishing.proofs.FillingLaws.{filled_past, filled_on}
+use Rattle.finishing.proofs.FillingLaws.{filled_past, filled_on, length_filled, length_on}
+
+not_none : (k : ℕ) → ◌≡◌ {A = Option ℕ} (Some k) None → ⊥
+not_none k e = let z : ◌≡◌ {A = ℕ} 0 1 = cc in omega arith
 
 module _ (passes : ℕ → Bool) (i n : ℕ) (h : i < n) where
-  first_turn : first_place passes i (n - i) ≡ cond (passes i) (suc i) (first_place passes (suc i) (n - suc i))
+  first_turn : first_place passes i (n - i) ≡ cond (passes i) (Some (suc i)) (first_place passes (suc i) (n - suc i))
   unfolding first_place
   first_turn = let e : n - i ≡ suc (n - suc i) = omega arith in ap (first_place passes i) e
 
-  first_here : passes i ≡ true → first_place passes i (n - i) ≡ i + 1
+  first_here : passes i ≡ true → first_place passes i (n - i) ≡ Some (i + 1)
   first_here e = first_turn ∙ rw (e, add-one)
 
   first_later : passes i ≡ false → first_place passes (i + 1) (n - (i + 1)) ≡ first_place passes i (n - i)
@@ -72,16 +76,32 @@ module _ (keys names₀ codes₀ marks₀ atoms : List ℕ) (n : ℕ) where
       left = first_later (unknown_at keys names₀ marks₀ atoms) i n h (sym unknown_is ∙ e) ∙ s.left;
     }
 
-    pub classing_stops : unknown ≡ true → Classified keys names₀ codes₀ marks₀ atoms n (i + 1) names' codes' categories'
+    pub classing_stops : unknown ≡ true → Classified keys names₀ codes₀ marks₀ atoms n (Some (i + 1)) names' codes' categories'
     classing_stops e = record {
       answer = sym (first_here (unknown_at keys names₀ marks₀ atoms) i n h (sym unknown_is ∙ e)) ∙ s.left;
-      names_stored = λ z. absurd (omega arith);
-      codes_stored = λ z. absurd (omega arith);
-      categories_stored = λ z. absurd (omega arith);
+      names_stored = λ z. absurd (not_none (i + 1) z);
+      codes_stored = λ z. absurd (not_none (i + 1) z);
+      categories_stored = λ z. absurd (not_none (i + 1) z);
     }
 
+    -- the slices keep their lengths
+    pub classing_long : (length names' ≡ length names₀) × (length codes' ≡ length codes₀) × (length categories' ≡ length marks₀)
+    classing_long = (
+      length_on (λ j. (class_at keys names₀ atoms j).name) i _ names₀ names names' s.names_stored names_after,
+      length_on (λ j. (class_at keys names₀ atoms j).code) i _ codes₀ codes codes' s.codes_stored codes_after,
+      length_on (λ j. (class_at keys names₀ atoms j).category) i _ marks₀ categories categories' s.categories_stored categories_after,
+    )
+
+  pub classed_long : {names codes categories : List ℕ} {at i : ℕ} → Classing names codes categories at i
+      → (length names ≡ length names₀) × (length codes ≡ length codes₀) × (length categories ≡ length marks₀)
+  classed_long {names} {codes} {categories} {at} {i} s = (
+    ap length s.names_stored ∙ length_filled (λ j. (class_at keys names₀ atoms j).name) i names₀,
+    ap length s.codes_stored ∙ length_filled (λ j. (class_at keys names₀ atoms j).code) i codes₀,
+    ap length s.categories_stored ∙ length_filled (λ j. (class_at keys names₀ atoms j).category) i marks₀,
+  )
+
   pub classing_ends : {names codes categories : List ℕ} {at i : ℕ} → Classing names codes categories at i → n ≤ i
-      → Classified keys names₀ codes₀ marks₀ atoms n 0 names codes categories
+      → Classified keys names₀ codes₀ marks₀ atoms n None names codes categories
   unfolding first_place
   classing_ends {names} {codes} {categories} {at} {i} s h =
       let e : i ≡ n = omega (arith, s.inside) in

@@ -6,8 +6,13 @@ use lib.Ieee.{Float}
 use lib.ListN.{length, take, replicate}
 use Rattle.field_slices.specs.Clearing.{cleared, zero_float, zero_point}
 use Rattle.model.specs.Lent.{Lent, lent_of, no_records, padded, holding, empty_model}
+use Rattle.model.specs.LentNow.{lent_now}
+use Rattle.model.specs.declared.lent.AtomsMut.{AtomsMut}
+use Rattle.model.specs.declared.lent.ResiduesMut.{ResiduesMut}
 use Rattle.model.specs.declared.room.Room.{Room}
+use Rattle.field_slices.proofs.ClearingLaws.{length_cleared}
 use Rattle.finishing.specs.Clearing.{cleared_from}
+use Rattle.finishing.specs.Sizes.{SameSizes}
 
 module _ {A : Type 0} (z : A) where
   pub cleared_padded : (n k : ℕ) (l m : List A) → take n l ≡ m → n ≡ length m → length l ≡ k → cleared z n l ≡ padded z k m
@@ -80,3 +85,20 @@ all_cleared l = cleared_as_long l l (record {
 pub none_left : (l : Lent) (left : List ℕ → Lent) {kept : Room} → kept ≡ no_records → left (cleared 0 kept.chains l.chains) ≡ cleared_from l kept
     → left (cleared 0 0 l.chains) ≡ holding l empty_model
 none_left l left w e = ap (λ (k : Room). left (cleared 0 k.chains l.chains)) (sym w) ∙ e ∙ ap (cleared_from l) w ∙ all_cleared l
+
+-- ---- and the slices stay as long as they were
+pub cleared_sizes : (names names' : List ℕ) (kept : Room) (r r' : ResiduesMut) (a a' : AtomsMut) → lent_now names' r' a' ≡ cleared_from (lent_now names r a) kept
+    → SameSizes r a r' a'
+unfolding cleared_from
+cleared_sizes names names' kept r r' a a' e = (
+  ap (λ (l : Lent). length l.residue_keys) e ∙ length_cleared 0 kept.residues r.keys.now,
+  ap (λ (l : Lent). length l.residue_names) e ∙ length_cleared 0 kept.residues r.names.now,
+  ap (λ (l : Lent). length l.residue_codes) e ∙ length_cleared 0 kept.residues r.codes.now,
+  ap (λ (l : Lent). length l.residue_categories) e ∙ length_cleared 0 kept.residues r.categories.now,
+  ap (λ (l : Lent). length l.residue_positions) e ∙ length_cleared 0 kept.residues r.positions.now,
+  ap (λ (l : Lent). length l.atom_keys) e ∙ length_cleared 0 kept.atoms a.keys.now,
+  ap (λ (l : Lent). length l.atom_names) e ∙ length_cleared 0 kept.atoms a.names.now,
+  ap (λ (l : Lent). length l.elements) e ∙ length_cleared 0 kept.atoms a.elements.now,
+  ap (λ (l : Lent). length l.positions) e ∙ length_cleared zero_point kept.atoms a.positions.now,
+  ap (λ (l : Lent). length l.occupancies) e ∙ length_cleared zero_float kept.atoms a.occupancies.now,
+)

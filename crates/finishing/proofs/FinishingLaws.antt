@@ -2,25 +2,26 @@
 use mathlib.Core.Path.{◌≡◌, refl, sym, ap, ◌∙◌}
 use mathlib.Core.Bool.{Bool}
 use mathlib.Core.List.{List, map, map-map}
-use mathlib.Core.Option.{Option, some}
-use Prim.Native.Nat.{ℕ, zero, suc, ◌≤◌, ◌<◌, min}
+use mathlib.Core.Option as math
+use Prim.Native.Nat.{ℕ, ◌≤◌, ◌<◌, min}
 use native.Mathlib.Omega.{arith}
 use lib.ListN.{length, get_or, take, length-map}
+use Prim.{Unit}
+use Rattle.std.specs.Prelude.{Option, Some, None, Result}
 use Rattle.names.specs.Places.{ascends}
 use Rattle.field_slices.specs.Clearing.{cleared, zero_float, zero_point}
 use Rattle.model.specs.Classes.{class_of, is_lone}
 use Rattle.model.specs.declared.classes.Class.{Class}
 use Rattle.model.specs.Finished.{unknown, known, atom_record, classified, positioned, all_positioned, model_from, unless, finished_of, Peopled}
 use Rattle.model.specs.Fold.{State}
-use Rattle.model.specs.Lent.{Lent, lent_of, room_of, no_records, coordinates, padded, holding}
+use Rattle.model.specs.Lent.{Lent, lent_of, room_of, coordinates, padded, holding}
 use Rattle.model.specs.Records.{ResidueRecord, AtomRecord}
 use Rattle.model.specs.Termini.{ruled_position}
 use Rattle.model.proofs.AscendingLaws.{map_ascends}
 use Rattle.model.specs.declared.room.Room.{Room}
 use Rattle.building.specs.declared.sites.Counts.{Counts}
-use Rattle.building.specs.Holds.{records_in, Holds, sizes_of}
-use Rattle.finishing.specs.declared.finished.Finish.{Finish}
-use Rattle.finishing.specs.declared.finished.Finish.TheVariants.{Unknown}
+use Rattle.building.specs.Holds.{records_in, Holds}
+use Rattle.finishing.specs.declared.finished.Unknown.{Unknown}
 use Rattle.finishing.specs.Classing.{class_at, unknown_at, first_place, Classified}
 use Rattle.finishing.specs.Clearing.{cleared_from}
 use Rattle.finishing.specs.Filling.{filled}
@@ -42,7 +43,7 @@ least : (x a b c d e f : ℕ) → x ≤ min a (min b (min c (min d (min e f)))) 
 least x a b c d e f h = (omega arith, omega arith, omega arith, omega arith)
 
 -- the slices once the walks are done
-abbrev walked : Lent → List ℕ → List ℕ → List ℕ → List ℕ → Lent
+abbrev pub walked : Lent → List ℕ → List ℕ → List ℕ → List ℕ → Lent
 walked l names codes categories positions =
     lent_of l.chains l.residue_keys names codes categories positions l.atom_keys l.atom_names l.elements l.positions l.occupancies
 
@@ -122,7 +123,7 @@ module _ (l : Lent) (c : Counts) (st : State) (h : Holds (records_in l) (room_of
       → cleared z c.atoms s ≡ padded z (length s) (map field atoms)
   atom_field z s field e = held_padded z c.atoms (length s) s field atoms (e ∙ sym (map-map field atom_record st.atoms)) many_atoms refl
 
-  all_held : cleared_from (walked l (stored (λ k. k.name) l.residue_names) codes (stored (λ k. k.category) l.residue_categories) placed) (kept_by 0 c)
+  all_held : cleared_from (walked l (stored (λ k. k.name) l.residue_names) codes (stored (λ k. k.category) l.residue_categories) placed) (kept_by None c)
       ≡ holding l (model_from st)
   unfolding cleared_from holding
   all_held = λ i. record {
@@ -143,7 +144,7 @@ module _ (l : Lent) (c : Counts) (st : State) (h : Holds (records_in l) (room_of
 
 -- ---- the whole
 
-module _ (l : Lent) (c : Counts) (r : ℕ) (names codes categories : List ℕ)
+module _ (l : Lent) (c : Counts) (r : Option ℕ) (names codes categories : List ℕ)
     (k : Classified l.residue_keys l.residue_names l.residue_codes l.residue_categories (atom_keys_in l c) c.residues r names codes categories)
     (positions : List ℕ) (p : positions ≡ filled (position_at l.residue_keys codes c.residues) c.residues l.residue_positions)
     (st : State) (h : Holds (records_in l) (room_of l) c st) (peopled : Peopled st) where
@@ -153,53 +154,42 @@ module _ (l : Lent) (c : Counts) (r : ℕ) (names codes categories : List ℕ)
   answer_is : r ≡ first_place is_unknown_at 0 (length st.residues)
   answer_is = k.answer ∙ ap (first_place is_unknown_at 0) h.residues.many
 
-  known_left : r ≡ 0 → (finished_of st ≡ known (model_from st)) × (cleared_from (walked l names codes categories positions) (kept_by 0 c) ≡ holding l (model_from st))
+  known_left : r ≡ None → (finished_of st ≡ known (model_from st)) × (cleared_from (walked l names codes categories positions) (kept_by None c) ≡ holding l (model_from st))
   unfolding finished_of
   known_left z =
       let q = none_unknown is_unknown_at st.residues (unknown_at_lem l c st h peopled) (sym answer_is ∙ z) in
       let places = p ∙ ap (λ (s : List ℕ). filled (position_at l.residue_keys s c.residues) c.residues l.residue_positions) (k.codes_stored z) in (
-        ap (λ (o : Option ℕ). unless o (model_from st)) q,
-        (λ i. cleared_from (walked l (k.names_stored z i) (k.codes_stored z i) (k.categories_stored z i) (places i)) (kept_by 0 c))
+        ap (λ (o : math.Option ℕ). unless o (model_from st)) q,
+        (λ i. cleared_from (walked l (k.names_stored z i) (k.codes_stored z i) (k.categories_stored z i) (places i)) (kept_by None c))
             ∙ all_held l c st h peopled,
       )
 
-  unknown_found : 0 < r → finished_of st ≡ unknown r
+  unknown_found : (place : ℕ) → r ≡ Some place → finished_of st ≡ unknown place
   unfolding finished_of
-  unknown_found z =
-      let a = answer_is in
-      ap (λ (o : Option ℕ). unless o (model_from st))
-      (some_unknown is_unknown_at st.residues (unknown_at_lem l c st h peopled) (omega arith) ∙ ap (λ (n : ℕ). some n) (sym a))
+  unknown_found place z =
+      ap (λ (o : math.Option ℕ). unless o (model_from st))
+      (some_unknown is_unknown_at st.residues (unknown_at_lem l c st h peopled) place (sym answer_is ∙ z))
 
 -- ---- by the place of the first unknown one
-pub all_kept : (place : ℕ) (c : Counts) → place ≡ 0 → sizes_of c ≡ kept_by place c
-all_kept place c e = sym (ap (λ (p : ℕ). kept_by p c) e)
-
-pub none_kept : (place : ℕ) (c : Counts) → (place ≡ 0 → ⊥) → no_records ≡ kept_by place c
-none_kept zero c n = absurd (n refl)
-none_kept (suc place) c n = refl
-
-pub unknown_finish : (place : ℕ) → (place ≡ 0 → ⊥) → Unknown place ≡ finish_by place
-unknown_finish zero n = absurd (n refl)
-unknown_finish (suc place) n = refl
-
-chains_kept_by : (place : ℕ) (c : Counts) → chains_kept (finish_by place) c ≡ (kept_by place c).chains
-chains_kept_by zero c = refl
-chains_kept_by (suc place) c = refl
+chains_kept_by : (place : Option ℕ) (c : Counts) → chains_kept (finish_by place) c ≡ (kept_by place c).chains
+chains_kept_by None c = refl
+chains_kept_by (Some place) c = refl
 
 -- by the answer as many chains stay as by the place
-pub chains_kept_lem : (place : ℕ) (c : Counts) {kept : Room} → kept ≡ kept_by place c → {answer : Finish} → answer ≡ finish_by place → chains_kept answer c ≡ kept.chains
-chains_kept_lem place c w f = ap (λ (a : Finish). chains_kept a c) f ∙ chains_kept_by place c ∙ sym (ap (λ (k : Room). k.chains) w)
+pub chains_kept_lem : (place : Option ℕ) (c : Counts) {kept : Room} → kept ≡ kept_by place c → {answer : Result (Unit {0}) Unknown} → answer ≡ finish_by place
+    → chains_kept answer c ≡ kept.chains
+chains_kept_lem place c w f = ap (λ (a : Result (Unit {0}) Unknown). chains_kept a c) f ∙ chains_kept_by place c ∙ sym (ap (λ (k : Room). k.chains) w)
 
-pub model_ends : (l : Lent) (c : Counts) (r : ℕ) (names codes categories : List ℕ)
+pub model_ends : (l : Lent) (c : Counts) (r : Option ℕ) (names codes categories : List ℕ)
     → Classified l.residue_keys l.residue_names l.residue_codes l.residue_categories (atom_keys_in l c) c.residues r names codes categories
     → (positions : List ℕ) → positions ≡ filled (position_at l.residue_keys codes c.residues) c.residues l.residue_positions
     → AsLong (walked l names codes categories positions) l
     → (kept : Room) → kept ≡ kept_by r c
     → (after : Lent) → after ≡ cleared_from (walked l names codes categories positions) kept
-    → (answer : Finish) → answer ≡ finish_by r → Ends l c answer after
-model_ends l c zero names codes categories k positions p long kept w after e answer f st h peopled =
-    let q = known_left l c 0 names codes categories k positions p st h peopled refl in
+    → (answer : Result (Unit {0}) Unknown) → answer ≡ finish_by r → Ends l c answer after
+model_ends l c None names codes categories k positions p long kept w after e answer f st h peopled =
+    let q = known_left l c None names codes categories k positions p st h peopled refl in
     (f ∙ sym (ap answer_of q.0), e ∙ ap (cleared_from (walked l names codes categories positions)) w ∙ q.1 ∙ sym (ap (left_by l) q.0))
-model_ends l c (suc place) names codes categories k positions p long kept w after e answer f st h peopled =
-    let q = unknown_found l c (suc place) names codes categories k positions p st h peopled (omega arith) in
+model_ends l c (Some place) names codes categories k positions p long kept w after e answer f st h peopled =
+    let q = unknown_found l c (Some place) names codes categories k positions p st h peopled place refl in
     (f ∙ sym (ap answer_of q), e ∙ ap (cleared_from (walked l names codes categories positions)) w ∙ cleared_as_long (walked l names codes categories positions) l long ∙ sym (ap (left_by l) q))

@@ -3,6 +3,5 @@ pub mod ClearingLaws
 pub mod EntriesWalked
 pub mod FillingLaws
 pub mod FinishingLaws
-pub mod GivenBack
 pub mod PositioningLaws
 pub mod UnknownLaws

@@ -3,19 +3,17 @@
 use mathlib.Core.Path.{◌≡◌, refl, sym, ap, ◌∙◌}
 use mathlib.Core.Bool.{Bool, true, false, not, cond, ◌&&◌}
 use mathlib.Core.List.{[], ◌∷◌}
-use mathlib.Core.Logic.{◌⊎◌, inl, inr}
-use mathlib.Core.Option.{Option, none, some}
+use mathlib.Core.Option as math
 use Prim.Native.Nat.{ℕ, suc, ◌+◌, ◌<◌}
 use native.Mathlib.Omega.{arith}
 use lib.Dec.{eqb}
 use lib.ListN.{length, get_or}
 use borrow.Author.Tests.{eq-eqb, ne_eqb}
+use Rattle.std.specs.Prelude.{Option, Some, None}
 use Rattle.names.specs.Residues.{residues, residue_code, residue_of}
 use Rattle.names.specs.Table.{resolve_of}
-use Rattle.names.specs.declared.residues.FoundResidue.{FoundResidue}
 use Rattle.names.specs.declared.residues.StandardResidue.{StandardResidue}
 use Rattle.names.specs.declared.table.Resolved.{Resolved}
-use Rattle.names.specs.declared.table.Resolved.TheVariants.{Standard, Unresolved}
 use Rattle.names.proofs.CodesAreInverse.{residue_again}
 use Rattle.model.specs.Classes.{class_by, class_of, is_resolved, is_unknown}
 use Rattle.model.specs.Finished.{further, unknown_in}
@@ -28,13 +26,13 @@ use Rattle.finishing.specs.Classing.{is_unknown_by, first_place}
 no_code_is_none : (r : StandardResidue) → residue_code r ≡ 0 → ⊥
 unfolding residue_of residues
 no_code_is_none r e =
-    let f : FoundResidue.None ≡ FoundResidue.Residue r = ap residue_of (sym e) ∙ residue_again r in
+    let f : ◌≡◌ {A = Option StandardResidue} None (Some r) = ap residue_of (sym e) ∙ residue_again r in
     let z : ◌≡◌ {A = ℕ} 0 1 = cc in
     omega arith
 
-code_tells : (q : Resolved) (name : ℕ) (lone : Bool) → eqb (class_by q name lone).code 0 ≡ not (is_resolved q)
-code_tells (Standard target r) name lone = ne_eqb (residue_code r) 0 (no_code_is_none r)
-code_tells Unresolved name lone = eq-eqb 0 0 refl
+code_tells : (q : Option Resolved) (name : ℕ) (lone : Bool) → eqb (class_by q name lone).code 0 ≡ not (is_resolved q)
+code_tells (Some to) name lone = ne_eqb (residue_code to.residue) 0 (no_code_is_none to.residue)
+code_tells None name lone = eq-eqb 0 0 refl
 
 mark_tells : (hetatm : Bool) → eqb (count hetatm) 0 ≡ not hetatm
 mark_tells true = ne_eqb 1 0 (λ e. omega arith)
@@ -50,14 +48,14 @@ unknown_by r lone = λ i. code_tells (resolve_of r.name) r.name lone i && mark_t
 abbrev pub no_entry : Entry Residue
 no_entry = record { key = 0; value = record { name = 0; hetatm = false } }
 
--- a place among those behind i others, as a number; 0 where there is none
-abbrev place_behind : ℕ → Option ℕ → ℕ
-place_behind i none = 0
-place_behind i (some place) = i + place
+-- a place among those behind i others
+abbrev place_behind : ℕ → math.Option ℕ → Option ℕ
+place_behind i math.none = None
+place_behind i (math.some place) = Some (i + place)
 
-one_behind : (i : ℕ) (o : Option ℕ) → place_behind (suc i) o ≡ place_behind i (further o)
-one_behind i none = refl
-one_behind i (some place) = omega arith
+one_behind : (i : ℕ) (o : math.Option ℕ) → place_behind (suc i) o ≡ place_behind i (further o)
+one_behind i math.none = refl
+one_behind i (math.some place) = ap (λ (n : ℕ). Some n) (omega arith)
 
 first_unknown : (passes : ℕ → Bool) (m : Map Residue) (i : ℕ) → ((j : ℕ) → j < length m → passes (i + j) ≡ is_unknown (get_or m j no_entry).value)
     → first_place passes i (length m) ≡ place_behind i (unknown_in m)
@@ -66,41 +64,30 @@ first_unknown passes [] i w = refl
 first_unknown passes (e ∷ m) i w =
     let here : passes i ≡ is_unknown e.value = ap passes (omega arith) ∙ w 0 (omega arith) in
     let rest = first_unknown passes m (suc i) (λ j h. let k : suc i + j ≡ i + suc j = omega arith in ap passes k ∙ w (suc j) (omega arith)) in
-    ap (λ (b : Bool). cond b (suc i) (first_place passes (suc i) (length m))) here ∙ go (is_unknown e.value) rest
+    ap (λ (b : Bool). cond b (Some (suc i)) (first_place passes (suc i) (length m))) here ∙ go (is_unknown e.value) rest
   where
     go : (b : Bool) → first_place passes (suc i) (length m) ≡ place_behind (suc i) (unknown_in m)
-        → cond b (suc i) (first_place passes (suc i) (length m)) ≡ place_behind i (cond b (some 1) (further (unknown_in m)))
-    go true r = omega arith
+        → cond b (Some (suc i)) (first_place passes (suc i) (length m)) ≡ place_behind i (cond b (math.some 1) (further (unknown_in m)))
+    go true r = ap (λ (n : ℕ). Some n) (omega arith)
     go false r = r ∙ one_behind i (unknown_in m)
-
--- places are from 1
-place_from_one : (m : Map Residue) → (unknown_in m ≡ none) ⊎ ((place : ℕ) × (unknown_in m ≡ some (suc place)))
-unfolding unknown_in
-place_from_one [] = inl refl
-place_from_one (e ∷ m) = go (is_unknown e.value) (place_from_one m)
-  where
-    go : (b : Bool) → (unknown_in m ≡ none) ⊎ ((place : ℕ) × (unknown_in m ≡ some (suc place)))
-        → (cond b (some 1) (further (unknown_in m)) ≡ none) ⊎ ((place : ℕ) × (cond b (some 1) (further (unknown_in m)) ≡ some (suc place)))
-    go true r = inr (0, refl)
-    go false (inl q) = inl (ap further q)
-    go false (inr (place, q)) = inr (suc place, ap further q)
 
 module _ (passes : ℕ → Bool) (m : Map Residue) (w : (j : ℕ) → j < length m → passes j ≡ is_unknown (get_or m j no_entry).value) where
   found : first_place passes 0 (length m) ≡ place_behind 0 (unknown_in m)
   found = first_unknown passes m 0 (λ j h. let e : 0 + j ≡ j = omega arith in ap passes e ∙ w j h)
 
-  pub none_unknown : first_place passes 0 (length m) ≡ 0 → unknown_in m ≡ none
-  none_unknown z = go (place_from_one m)
+  pub none_unknown : first_place passes 0 (length m) ≡ None → unknown_in m ≡ math.none
+  none_unknown z = go (unknown_in m) (sym z ∙ found)
     where
-      go : (unknown_in m ≡ none) ⊎ ((place : ℕ) × (unknown_in m ≡ some (suc place))) → unknown_in m ≡ none
-      go (inl q) = q
-      go (inr (place, q)) = absurd (omega (arith, found ∙ ap (place_behind 0) q))
+      go : (o : math.Option ℕ) → None ≡ place_behind 0 o → o ≡ math.none
+      go math.none q = refl
+      go (math.some place) q = cc
 
-  pub some_unknown : 0 < first_place passes 0 (length m) → unknown_in m ≡ some (first_place passes 0 (length m))
-  some_unknown h = go (place_from_one m)
+  pub some_unknown : (place : ℕ) → first_place passes 0 (length m) ≡ Some place → unknown_in m ≡ math.some place
+  some_unknown place z = go (unknown_in m) (sym z ∙ found)
     where
-      go : (unknown_in m ≡ none) ⊎ ((place : ℕ) × (unknown_in m ≡ some (suc place))) → unknown_in m ≡ some (first_place passes 0 (length m))
-      go (inl q) = absurd (omega (arith, found ∙ ap (place_behind 0) q))
-      go (inr (place, q)) =
-          let e : suc place ≡ first_place passes 0 (length m) = omega (arith, found ∙ ap (place_behind 0) q) in
-          q ∙ ap (λ (n : ℕ). some n) e
+      go : (o : math.Option ℕ) → Some place ≡ place_behind 0 o → o ≡ math.some place
+      go math.none q = cc
+      go (math.some k) q =
+          let e : place ≡ 0 + k = cc in
+          let same : k ≡ place = omega (arith, e) in
+          ap (λ (n : ℕ). math.some n) same

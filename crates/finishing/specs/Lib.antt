@@ -3,3 +3,4 @@ pub mod Clearing
 pub mod Filling
 pub mod Finishing
 pub mod Positioning
+pub mod Sizes

@@ -1,66 +1,65 @@
 // What each residue is, by its name and its atoms: the name that it leads to, its standard code and its category; and the first unknown one.
-ghost use Rattle.std.specs.Prelude.{◌≡◌, get_or, set, take};
+ghost use Rattle.std.specs.Prelude.{◌≡◌, get_or, take};
 ghost use Rattle.model.specs.Classes.{class_of};
-ghost use Rattle.finishing.specs.Classing.{is_unknown_by, Classifies};
+ghost use Rattle.model.specs.LentNow.{SameResidues};
+ghost use Rattle.finishing.specs.Classing.{is_unknown_by, ClassStored, Classifies};
 
-use ascii::byte_at;
-use field_slices::u64_at;
-use model::{class_of, is_alone, pass_lesser};
+use building::Counts;
+use field_slices::{entry_at, store};
+use model::{AtomsMut, Class, ResiduesMut, class_of, is_alone, pass_lesser};
 
-// Neither resolved nor HETATM.
-fn is_unknown(code: u8, mark: u8) -> bool
-    ensures { result ≡ is_unknown_by code mark }
+// What residue i is, by the name that stands in its records.
+fn class_in(residues: &ResiduesMut<'_>, i: usize, lone: bool) -> Class
+    ensures { result ≡ class_of (get_or residues.now.names.now i 0) lone }
 {
-    if code != 0 {
-        return false;
-    }
-    mark == 0
+    class_of(entry_at(residues.names, i, 0), lone)
 }
 
-// Residue i: what it is goes into its records, its category over the HETATM mark; the answer is whether it is unknown.
-fn classify_residue(
-    names: &mut [u64],
-    codes: &mut [u8],
-    categories: &mut [u8],
-    i: usize,
-    lone: bool,
-) -> bool
-    ensures value { result ≡ is_unknown_by (class_of (get_or names.old i 0) lone).code (get_or categories.old i 0) }
-    ensures names_after { names.new ≡ set names.old i (class_of (get_or names.old i 0) lone).name }
-    ensures codes_after { codes.new ≡ set codes.old i (class_of (get_or names.old i 0) lone).code }
-    ensures categories_after { categories.new ≡ set categories.old i (class_of (get_or names.old i 0) lone).category }
+// Neither resolved nor HETATM, whose mark stands where the category will.
+fn is_unknown(residues: &ResiduesMut<'_>, i: usize, code: u8) -> bool
+    ensures { result ≡ is_unknown_by code (get_or residues.now.categories.now i 0) }
 {
-    let mark = byte_at(categories, i);
-    let class = class_of(u64_at(names, i), lone);
-    field_slices::store_u64(names, i, class.name);
-    field_slices::store_u8(codes, i, class.code);
-    field_slices::store_u8(categories, i, class.category);
-    is_unknown(class.code, mark)
+    code == 0 && entry_at(residues.categories, i, 0) == 0
 }
 
-// The place of the first unknown residue, from 1; 0 where each is known, and then what each is stands in its records. Residues and atoms are in
-// one order, so that both are walked once.
+// What residue i is goes into its records, its category over the HETATM mark; the answer is whether it is unknown.
+fn classify_residue(residues: &mut ResiduesMut<'_>, i: usize, lone: bool) -> bool
+    ensures same { SameResidues residues.old residues.new }
+    ensures value { result ≡ is_unknown_by (class_of (get_or residues.old.names.now i 0) lone).code (get_or residues.old.categories.now i 0) }
+    ensures stored { ClassStored (class_of (get_or residues.old.names.now i 0) lone) i residues.old residues.new }
+{
+    let class = class_in(residues, i, lone);
+    let unknown = is_unknown(residues, i, class.code);
+    store(residues.names, i, class.name);
+    store(residues.codes, i, class.code);
+    store(residues.categories, i, class.category);
+    unknown
+}
+
+fn key_at(residues: &ResiduesMut<'_>, i: usize) -> u64
+    ensures { result ≡ get_or residues.now.keys.now i 0 }
+{
+    entry_at(residues.keys, i, 0)
+}
+
+// The place of the first unknown residue, from 1; where each is known, what each is stands in its records. Residues and atoms are in one order,
+// so that both are walked once.
 pub(crate) fn classify_residues(
-    keys: &[u64],
-    names: &mut [u64],
-    codes: &mut [u8],
-    categories: &mut [u8],
-    atom_keys: &[u64],
-    residues: usize,
-    atoms: usize,
-) -> usize
-    ensures { Classifies keys.now names codes categories (take atoms atom_keys.now) residues result }
+    residues: &mut ResiduesMut<'_>,
+    atoms: &AtomsMut<'_>,
+    counts: Counts,
+) -> Option<usize>
+    ensures same { SameResidues residues.old residues.new }
+    ensures classified { Classifies residues.old (take counts.atoms atoms.now.keys.now) counts.residues result residues.new }
 {
     let mut at = 0;
-    let mut i = 0;
-    while i < residues {
-        let key = u64_at(keys, i);
-        at = pass_lesser(atom_keys, atoms, at, key);
-        let lone = is_alone(atom_keys, atoms, at, key);
-        if classify_residue(names, codes, categories, i, lone) {
-            return i + 1;
+    for i in 0..counts.residues {
+        let key = key_at(residues, i);
+        at = pass_lesser(atoms.keys, counts.atoms, at, key);
+        let lone = is_alone(atoms.keys, counts.atoms, at, key);
+        if classify_residue(residues, i, lone) {
+            return Some(i + 1);
         }
-        i += 1;
     }
-    0
+    None
 }

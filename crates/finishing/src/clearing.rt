@@ -1,39 +1,27 @@
 // Every record zero from its count on.
 ghost use Rattle.std.specs.Prelude.{List, ◌≡◌, ℕ};
 ghost use Rattle.field_slices.specs.Clearing.{cleared};
-ghost use Rattle.model.specs.Lent.{lent_by};
+ghost use Rattle.model.specs.LentNow.{lent_now, SameResidues, SameAtoms};
 ghost use Rattle.finishing.specs.Clearing.{cleared_from};
 
-use model::Room;
+use field_slices::clear_from;
+use model::{AtomsMut, ResiduesMut, Room};
 
 // Whoever holds the chains clears them.
-pub fn clear_records(
-    residue_keys: &mut [u64],
-    residue_names: &mut [u64],
-    residue_codes: &mut [u8],
-    residue_categories: &mut [u8],
-    residue_positions: &mut [u8],
-    atom_keys: &mut [u64],
-    atom_names: &mut [u64],
-    elements: &mut [u8],
-    positions: &mut [[f64; 3]],
-    occupancies: &mut [f64],
-    kept: Room,
-)
-    ensures { (names : List ℕ) →
-        let l = lent_by (record { entry = names; exit = cleared 0 kept.chains names }) residue_keys residue_names residue_codes residue_categories residue_positions atom_keys atom_names elements positions occupancies in
-        l.exit ≡ cleared_from l.entry kept }
+pub fn clear_records(residues: &mut ResiduesMut<'_>, atoms: &mut AtomsMut<'_>, kept: Room)
+    ensures same_residues { SameResidues residues.old residues.new }
+    ensures same_atoms { SameAtoms atoms.old atoms.new }
+    ensures zeros { (names : List ℕ) →
+        lent_now (cleared 0 kept.chains names) residues.new atoms.new ≡ cleared_from (lent_now names residues.old atoms.old) kept }
 {
-    let residues = kept.residues;
-    let atoms = kept.atoms;
-    field_slices::clear_u64_from(residue_keys, residues);
-    field_slices::clear_u64_from(residue_names, residues);
-    field_slices::clear_u8_from(residue_codes, residues);
-    field_slices::clear_u8_from(residue_categories, residues);
-    field_slices::clear_u8_from(residue_positions, residues);
-    field_slices::clear_u64_from(atom_keys, atoms);
-    field_slices::clear_u64_from(atom_names, atoms);
-    field_slices::clear_u8_from(elements, atoms);
-    field_slices::clear_point_from(positions, atoms);
-    field_slices::clear_f64_from(occupancies, atoms);
+    clear_from(residues.keys, kept.residues, 0);
+    clear_from(residues.names, kept.residues, 0);
+    clear_from(residues.codes, kept.residues, 0);
+    clear_from(residues.categories, kept.residues, 0);
+    clear_from(residues.positions, kept.residues, 0);
+    clear_from(atoms.keys, kept.atoms, 0);
+    clear_from(atoms.names, kept.atoms, 0);
+    clear_from(atoms.elements, kept.atoms, 0);
+    clear_from(atoms.positions, kept.atoms, [0.0; 3]);
+    clear_from(atoms.occupancies, kept.atoms, 0.0);
 }

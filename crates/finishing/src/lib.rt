@@ -8,4 +8,4 @@ mod finished;
 mod positions;
 
 pub use clearing::clear_records;
-pub use finished::{Finish, finish_model};
+pub use finished::{Unknown, finish_model};

@@ -3,7 +3,7 @@
 use Prim.{Dec, yes, no}
 use mathlib.Core.Path.{◌≡◌, refl, sym, ap, ◌∙◌}
 use mathlib.Core.List.{List, [], ◌∷◌, ◌++◌}
-use mathlib.Core.Bool.{Bool, true, cond, false≢true}
+use mathlib.Core.Bool.{Bool, cond}
 use mathlib.Core.Logic.{◌⊎◌, inl, inr}
 use Prim.Native.Nat.{ℕ, zero, suc, ◌+◌, ◌-◌, ◌≤◌, ◌<◌}
 use native.Mathlib.Nat.{zero-add, suc-add}
@@ -173,13 +173,11 @@ module _ {A : Type 0} where
 
   -- the same of an entry that is put in
   module _ (a : Area) (at : ℕ) (v : A) (l : List A) where
-    pub put_in : (q : List A) → Lies a (length l) → PutIn a.front a.behind (record { front = at; new = true }) v (part a l) q → PutsIn a at v l (with a l q)
+    pub put_in : (q : List A) → Lies a (length l) → PutIn a.front a.behind at v (part a l) q → PutsIn a at v l (with a l q)
     unfolding entries_in
     put_in q h m = record {
       elsewhere = elsewhere_back a l q h m.long;
-      entries = λ w r t.
-          ap (closed (suc at) (many a - at)) (part_back a l q h m.long)
-          ∙ m.entries (record { within = has_entries a l h; room = λ new. omega (arith, r, length_part a l h); spot = t; there = λ old. absurd (false≢true (sym old)) });
+      entries = λ w r t. ap (closed (suc at) (many a - at)) (part_back a l q h m.long) ∙ m.entries (record { room = omega (arith, r, length_part a l h); there = t });
     }
 
     pub none_put : (Lies a (length l) → ⊥) → PutsIn a at v l l

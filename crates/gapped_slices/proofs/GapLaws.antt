@@ -1,22 +1,23 @@
--- An entry carried over the gap is the last before it instead of the first behind it, or the other way round, so that the entries, with the gap closed,
+-- Entries copied over the gap are the last before it instead of the first behind it, or the other way round, so that the entries, with the gap closed,
 -- stay; and an entry stored at the gap's beginning is put in there.
+use Prim.{Dec, yes, no}
+use native.Mathlib.Decide.{dec_lt}
 use mathlib.Core.Path.{◌≡◌, refl, sym, ap, ◌∙◌, subst}
 use mathlib.Core.List.{List, [], ◌∷◌, ◌++◌, append_assoc}
 use mathlib.Core.Bool.{Bool, true, false, cond}
-use Prim.Native.Nat.{ℕ, zero, suc, ◌+◌, ◌-◌, ◌≤◌, ◌<◌}
-use native.Mathlib.Nat.{le_of_suc-le-suc, not-suc-le-zero, zero-add, suc-add}
-use native.Mathlib.Numerals.{add-one}
+use Prim.Native.Nat.{ℕ, suc, ◌+◌, ◌-◌, ◌≤◌, ◌<◌}
+use native.Mathlib.Nat.{zero-add, suc-add}
 use native.Mathlib.Omega.{arith}
 use lib.Dec.{leb}
-use lib.ListN.{length, take, drop, get_or, set, length-append, length-drop, length-set, get_or-append}
-use lib.Seq.{length-take-le, take-suc, drop-cons, set-append_left, take-set-le, drop-set-lt, take-set-lt, take-suc-set, get_or-take, drop-length, drop-set-add, get_or-append-add, get_or-drop}
-use borrow.Author.Tests.{leb-true, leb-false, le-leb, lt-leb}
-use Rattle.gapped_slices.specs.declared.spots.Spot.{Spot}
-use Rattle.gapped_slices.specs.Gaps.{closed, GapMoved, PutIn}
+use lib.ListN.{length, take, drop, get_or, set, take-append-drop, length-append, length-drop, length-set, get_or-append}
+use lib.Seq.{paste, length-paste, take-paste, drop-paste, take-append-le, take-take, take-add, drop-drop, drop_at, length-take-le, set-append_left, take-set-le, drop-set-lt, take-set-lt, take-suc-set, get_or-take, drop-length, drop-set-add, get_or-append-add, get_or-drop}
+use borrow.Author.Tests.{leb-true, leb-false, le-leb, lt-leb, lt-ltb, le-ltb}
+use Rattle.std.specs.List.{copy_within}
+use Rattle.gapped_slices.specs.Gaps.{closed, standing, GapMoved, PutIn}
 use Rattle.field_slices.specs.Insertion.{ins}
 use Rattle.field_slices.specs.Places.{pairs}
 use Rattle.field_slices.proofs.InsertionLaws.{ins_between}
-use Rattle.field_slices.proofs.PairLaws.{pairs_join, take_pairs}
+use Rattle.field_slices.proofs.PairLaws.{length_pairs, pairs_at}
 
 -- a sum is within a size where the one part is within what the other leaves
 pub within_rest : (front behind size : ℕ) → behind ≤ size → leb front (size - behind) ≡ leb (front + behind) size
@@ -27,82 +28,102 @@ within_rest front behind size h = go (leb front (size - behind)) refl
     go false e = sym (lt-leb (front + behind) size (omega (arith, leb-false front (size - behind) e)))
 
 module _ {A : Type 0} where
-  -- ---- one entry over the gap, which is from i to j
-  drop_set : (l : List A) (n : ℕ) (a : A) → n < length l → drop n (set l n a) ≡ a ∷ drop (suc n) l
-  drop_set [] n a h = absurd (not-suc-le-zero h)
-  drop_set (x ∷ l) zero a h = refl
-  drop_set (x ∷ l) (suc n) a h = drop_set l n a (le_of_suc-le-suc h)
-
-  to_front : (l : List A) (i j : ℕ) (d : A) → i ≤ j → j < length l → let v = get_or l j d in take (suc i) (set l i v) ++ drop (suc j) (set l i v) ≡ take i l ++ drop j l
-  to_front l i j d h k =
-      let v = get_or l j d in
-      (λ p. take-suc-set l i v (omega arith) p ++ drop-set-lt (suc j) l i v (omega arith) p)
-      ∙ append_assoc (take i l) (v ∷ []) (drop (suc j) l)
-      ∙ ap (λ (r : List A). take i l ++ r) (sym (drop-cons l j d k))
-
-  to_back : (l : List A) (i j : ℕ) (d : A) → i ≤ j → j < length l → let v = get_or l i d in take i (set l j v) ++ drop j (set l j v) ≡ take (suc i) l ++ drop (suc j) l
-  to_back l i j d h k =
-      let v = get_or l i d in
-      (λ p. take-set-le i l j v h p ++ drop_set l j v k p)
-      ∙ sym (append_assoc (take i l) (v ∷ []) (drop (suc j) l))
-      ∙ ap (λ (r : List A). r ++ drop (suc j) l) (sym (take-suc l i d (omega arith)))
-
-  -- the same, by how many are before the gap and behind it
-  parted : (front behind from : ℕ) (l : List A) → from + behind ≡ length l → closed front behind l ≡ take front l ++ drop from l
+  -- ---- entries copied over the gap
+  pub parted : (front behind from : ℕ) (l : List A) → from + behind ≡ length l → closed front behind l ≡ take front l ++ drop from l
   unfolding closed
   parted front behind from l e = let q : length l - behind ≡ from = omega arith in ap (λ (n : ℕ). take front l ++ drop n l) q
 
-  carry_ahead : (l : List A) (n i gap : ℕ) (d : A) → gap + n ≡ length l → i < n → closed (suc i) (n - suc i) (set l i (get_or l (i + gap) d)) ≡ closed i (n - i) l
-  carry_ahead l n i gap d e h =
-      let v = get_or l (i + gap) d in
-      parted (suc i) (n - suc i) (suc (i + gap)) (set l i v) (omega (arith, length-set l i v))
-      ∙ to_front l i (i + gap) d (omega arith) (omega arith)
-      ∙ sym (parted i (n - i) (i + gap) l (omega arith))
+  module _ (front behind gap to : ℕ) (l : List A) (size : gap + (front + behind) ≡ length l) where
+    -- those behind it to the front
+    pub moved_ahead : front ≤ to → to ≤ front + behind → {s : List A} → s ≡ copy_within l (front + gap) (to + gap) front → GapMoved front behind to l s
+    moved_ahead h k e = subst (GapMoved front behind to l) (sym e) (record { long = long; entries = λ w t. entries })
+      where
+        over : ℕ
+        over = to + gap - (front + gap)
 
-  carry_back : (l : List A) (n i gap : ℕ) (d : A) → gap + n ≡ length l → i < n → closed i (n - i) (set l (i + gap) (get_or l i d)) ≡ closed (suc i) (n - suc i) l
-  carry_back l n i gap d e h =
-      let v = get_or l i d in
-      parted i (n - i) (i + gap) (set l (i + gap) v) (omega (arith, length-set l (i + gap) v))
-      ∙ to_back l i (i + gap) d (omega arith) (omega arith)
-      ∙ sym (parted (suc i) (n - suc i) (suc (i + gap)) l (omega arith))
+        rest : List A
+        rest = drop (front + gap) l
 
-  -- ---- the loops: i of the n entries are before the gap
-  pub record Carrying (front behind : ℕ) (l s : List A) (i : ℕ) : Type 0 where
-    pub long : length s ≡ length l
-    pub entries : closed i (front + behind - i) s ≡ closed front behind l
+        after : List A
+        after = paste l front rest over
 
-  module _ {front behind : ℕ} {l : List A} where
-    pub carrying_starts : Carrying front behind l l front
-    carrying_starts = let e : front + behind - front ≡ behind = omega arith in record { long = refl; entries = ap (λ (n : ℕ). closed front n l) e }
+        far : front + over ≡ to
+        far = omega arith
 
-    pub carrying_ahead : {s : List A} {i gap : ℕ} (d : A) → Carrying front behind l s i → gap ≡ length l - behind - front → front + behind ≤ length l → i < front + behind
-        → Carrying front behind l (set s i (get_or s (i + gap) d)) (i + 1)
-    carrying_ahead {s} {i} {gap} d c g w h = record {
-      long = length-set s i (get_or s (i + gap) d) ∙ c.long;
-      entries = rw add-one (carry_ahead s (front + behind) i gap d (omega (arith, c.long)) h) ∙ c.entries;
-    }
+        within : over ≤ length rest
+        within = omega (arith, length-drop (front + gap) l)
 
-    pub carrying_back : {s : List A} {i gap : ℕ} (d : A) → Carrying front behind l s i → gap ≡ length l - behind - front → front + behind ≤ length l → 0 < i → i ≤ front
-        → Carrying front behind l (set s (i - 1 + gap) (get_or s (i - 1) d)) (i - 1)
-    carrying_back {s} {i} {gap} d c g w h k =
-        let e : suc (i - 1) ≡ i = omega arith in
-        record {
-          long = length-set s (i - 1 + gap) (get_or s (i - 1) d) ∙ c.long;
-          entries =
-              carry_back s (front + behind) (i - 1) gap d (omega (arith, c.long)) (omega arith)
-              ∙ ap (λ (j : ℕ). closed j (front + behind - j) s) e
-              ∙ c.entries;
-        }
+        long : length after ≡ length l
+        long = length-paste l front rest over (omega arith) within
 
-    pub carrying_ends : {s : List A} {i to : ℕ} → Carrying front behind l s i → i ≡ to → GapMoved front behind to l s
-    carrying_ends {s} {i} {to} c e = record {
-      long = c.long;
-      entries = λ w t. ap (λ (j : ℕ). closed j (front + behind - j) s) (sym e) ∙ c.entries;
-    }
+        first : take to after ≡ take front l ++ take over rest
+        first = ap (λ (n : ℕ). take n after) (sym far) ∙ take-paste l front rest over (omega arith) within
 
-    -- nothing is moved where the slice is too short, or has no such entries
-    pub not_moved : {to : ℕ} → (front + behind ≤ length l → to ≤ front + behind → ⊥) → GapMoved front behind to l l
-    not_moved n = record { long = refl; entries = λ w t. absurd (n w t) }
+        last : drop (to + gap) after ≡ drop over rest
+        last =
+            let e : front + over + gap ≡ to + gap = omega (arith, far) in
+            let f : front + gap + over ≡ front + over + gap = omega arith in
+            ap (λ (n : ℕ). drop n after) (sym e) ∙ sym (drop-drop gap (front + over) after)
+            ∙ ap (drop gap) (drop-paste l front rest over (omega arith) within)
+            ∙ drop-drop gap (front + over) l ∙ ap (λ (n : ℕ). drop n l) (sym f) ∙ sym (drop-drop over (front + gap) l)
+
+        entries : closed to (front + behind - to) after ≡ closed front behind l
+        entries =
+            parted to (front + behind - to) (to + gap) after (omega (arith, long))
+            ∙ (λ i. first i ++ last i)
+            ∙ append_assoc (take front l) (take over rest) (drop over rest)
+            ∙ ap (λ (r : List A). take front l ++ r) (take-append-drop over rest)
+            ∙ sym (parted front behind (front + gap) l (omega arith))
+
+    -- those before it to behind it
+    pub moved_back : to ≤ front → {s : List A} → s ≡ copy_within l to front (to + gap) → GapMoved front behind to l s
+    moved_back h e = subst (GapMoved front behind to l) (sym e) (record { long = long; entries = λ w t. entries })
+      where
+        over : ℕ
+        over = front - to
+
+        carried : List A
+        carried = take over (drop to l)
+
+        rest : List A
+        rest = drop (to + gap + over) l
+
+        after : List A
+        after = paste l (to + gap) (drop to l) over
+
+        within : over ≤ length (drop to l)
+        within = omega (arith, length-drop to l)
+
+        long : length after ≡ length l
+        long = length-paste l (to + gap) (drop to l) over (omega arith) within
+
+        before : List A
+        before = take (to + gap) l
+
+        same : after ≡ before ++ (carried ++ rest)
+        same = append_assoc before carried rest
+
+        first : take to after ≡ take to l
+        first =
+            ap (take to) same
+            ∙ take-append-le to before (carried ++ rest) (omega (arith, length-take-le (to + gap) l (omega arith)))
+            ∙ take-take to (to + gap) l (omega arith)
+
+        last : drop (to + gap) after ≡ carried ++ rest
+        last = ap (drop (to + gap)) same ∙ drop_at before (carried ++ rest) (to + gap) (length-take-le (to + gap) l (omega arith))
+
+        entries : closed to (front + behind - to) after ≡ closed front behind l
+        entries =
+            let e : to + over ≡ front = omega arith in
+            parted to (front + behind - to) (to + gap) after (omega (arith, long))
+            ∙ (λ i. first i ++ last i)
+            ∙ sym (append_assoc (take to l) carried rest)
+            ∙ ap (λ (r : List A). r ++ rest) (sym (take-add to over l) ∙ ap (λ (n : ℕ). take n l) e)
+            ∙ sym (parted front behind (to + gap + over) l (omega arith))
+
+  -- nothing is moved where the slice is too short, or has no such entries
+  pub not_moved : {front behind to : ℕ} {l : List A} → (front + behind ≤ length l → to ≤ front + behind → ⊥) → GapMoved front behind to l l
+  not_moved n = record { long = refl; entries = λ w t. absurd (n w t) }
 
   -- ---- the entries, with the gap closed
   set_append_add : (xs ys : List A) (n : ℕ) (a : A) → set (xs ++ ys) (length xs + n) a ≡ xs ++ set ys n a
@@ -165,6 +186,16 @@ module _ {A : Type 0} where
           ∙ get_or-drop j l (i - front) d
           ∙ ap (λ (n : ℕ). get_or l n d) (behind_gap k)
 
+  -- the i-th entry, wherever it stands
+  pub closed_standing : (front behind gap : ℕ) (l : List A) → gap + (front + behind) ≡ length l → (i : ℕ) (d : A) → i < front + behind → get_or (closed front behind l) i d ≡ get_or l (standing front gap i) d
+  closed_standing front behind gap l size i d h = go (dec_lt i front)
+    where
+      go : Dec (i < front) → get_or (closed front behind l) i d ≡ get_or l (standing front gap i) d
+      go (yes k) = closed_at front behind l i d (omega arith) k ∙ ap (λ (t : Bool). get_or l (cond t i (i + gap)) d) (sym (lt-ltb i front k))
+      go (no k) =
+          let f : front ≤ i = omega (arith, k) in
+          closed_at_behind front behind l gap size i f d h ∙ ap (λ (t : Bool). get_or l (cond t i (i + gap)) d) (sym (le-ltb i front f))
+
   pub closed_front : (n : ℕ) (l : List A) → closed n 0 l ≡ take n l
   unfolding closed
   closed_front n l =
@@ -176,32 +207,27 @@ module _ {A : Type 0} where
       none (x ∷ r) = ap (λ (q : List A). x ∷ q) (none r)
 
   -- ---- an entry put in
-  module _ {front behind : ℕ} (s : Spot) (v : A) {l : List A} where
-    pub put_new : {moved after : List A} → s.new ≡ true → GapMoved front behind s.front l moved → after ≡ set moved s.front v → PutIn front behind s v l after
-    put_new {moved} {after} n m e =
-        let to = s.front in
-        let rest = front + behind - to in
-        record {
-          long = ap length e ∙ length-set moved to v ∙ m.long;
-          entries = λ can.
-              subst (λ (b : Bool). closed (cond b (suc to) to) rest after ≡ cond b (ins to v (closed front behind l)) (closed front behind l)) (sym n)
-              (ap (closed (suc to) rest) e ∙ closed_put to rest moved v (omega (arith, m.long, can.room n, can.spot)) ∙ ap (ins to v) (m.entries can.within can.spot));
-        }
-
-    pub put_none : {after : List A} → s.new ≡ false → GapMoved front behind s.front l after → PutIn front behind s v l after
-    put_none {after} n m =
-        let to = s.front in
-        record {
-          long = m.long;
-          entries = λ can.
-              subst (λ (b : Bool). closed (cond b (suc to) to) (front + behind - to) after ≡ cond b (ins to v (closed front behind l)) (closed front behind l)) (sym n)
-              (m.entries can.within can.spot);
-        }
+  pub put_new : {front behind at : ℕ} (v : A) {l moved after : List A} → GapMoved front behind at l moved → after ≡ set moved at v → PutIn front behind at v l after
+  put_new {front} {behind} {at} v {l} {moved} {after} m e =
+      let rest = front + behind - at in
+      record {
+        long = ap length e ∙ length-set moved at v ∙ m.long;
+        entries = λ can.
+            ap (closed (suc at) rest) e ∙ closed_put at rest moved v (omega (arith, m.long, can.room, can.there)) ∙ ap (ins at v) (m.entries (omega (arith, can.room)) can.there);
+      }
 
 -- ---- of two slices, side by side
-pub pairs_closed : (front behind : ℕ) (keys names : List ℕ) → front ≤ length keys → front ≤ length names
-    → pairs (closed front behind keys) (closed front behind names) ≡ take front (pairs keys names) ++ pairs (drop (length keys - behind) keys) (drop (length names - behind) names)
-unfolding closed
-pairs_closed front behind keys names h k =
-    pairs_join (take front keys) (take front names) (drop (length keys - behind) keys) (drop (length names - behind) names) (length-take-le front keys h ∙ sym (length-take-le front names k))
-    ∙ ap (λ (r : List (ℕ × ℕ)). r ++ pairs (drop (length keys - behind) keys) (drop (length names - behind) names)) (sym (take_pairs front keys names))
+module _ (front behind gap name_gap : ℕ) (keys names : List ℕ) (size : gap + (front + behind) ≡ length keys) (name_size : name_gap + (front + behind) ≡ length names) where
+  length_keys : length (closed front behind keys) ≡ front + behind
+  length_keys = length_closed front behind keys (omega arith)
+
+  length_names : length (closed front behind names) ≡ front + behind
+  length_names = length_closed front behind names (omega arith)
+
+  pub length_pairs_closed : length (pairs (closed front behind keys) (closed front behind names)) ≡ front + behind
+  length_pairs_closed = omega (arith, length_pairs (closed front behind keys) (closed front behind names), length_keys, length_names)
+
+  pub pairs_standing : (i : ℕ) → i < front + behind → get_or (pairs (closed front behind keys) (closed front behind names)) i (0, 0) ≡ (get_or keys (standing front gap i) 0, get_or names (standing front name_gap i) 0)
+  pairs_standing i h =
+      pairs_at (closed front behind keys) (closed front behind names) i (omega (arith, h, length_keys)) (omega (arith, h, length_names))
+      ∙ λ p. (closed_standing front behind gap keys size i 0 h p, closed_standing front behind name_gap names name_size i 0 h p)

@@ -1,3 +1,5 @@
 pub mod AreaLaws
+pub mod CarryLaws
 pub mod GapLaws
+pub mod PartsLaws
 pub mod SpotLaws

@@ -1,3 +1,4 @@
 pub mod Areas
 pub mod Gaps
+pub mod Ranks
 pub mod Spots

@@ -3,12 +3,7 @@
 #![tactic(auto)]
 
 mod areas;
-mod carrying;
 mod gaps;
 mod spots;
 
-pub use areas::{
-    Area, move_in_f64, move_in_point, move_in_u8, move_in_u64, put_in_f64, put_in_point, put_in_u8,
-    put_in_u64, spot_in, spot_in_key, stand,
-};
-pub use spots::Spot;
+pub use areas::{Area, move_in, put_in, spot_in, spot_in_key, stand};

@@ -1,7 +1,6 @@
 // The intake as a program: a text from standard input; what it says to standard output, written anew, or a line that says why not.
 #![tactic(auto)]
 
-use results::Answer;
 use service::serve_own;
 use std::io;
 use std::io::Read;
@@ -21,8 +20,8 @@ fn main(rt: HostRuntime) -> io::Result<()> {
     let mut out = vec![in rt.alloc(); 0; 65536]?;
     let answer = serve_own(&text, &mut out, rows::assuming());
     match answer {
-        Answer::Served { written, counts: _ } => say::text(&rt, &out[0..written]),
-        Answer::Refused(why) => {
+        Ok(served) => say::text(&rt, &out[0..served.written]),
+        Err(why) => {
             let reason = why.reason;
             say::refused(&rt, reason.number(), why.line, reason.detail())
         }

@@ -9,6 +9,7 @@ use lib.Dec.{eqb, leb}
 use lib.ListN.{length, take}
 use lib.Seq.{sets}
 use borrow.Author.Tests.{leb-true}
+use Rattle.std.specs.Prelude.{Some, option_map}
 use Rattle.ascii.specs.Bytes.{bytes}
 use Rattle.ascii.specs.Words.{starts_with, same_bytes}
 use Rattle.ascii.proofs.TestLaws.{left_of, right_of}
@@ -49,7 +50,7 @@ module _ (n : ℕ) (long : 28 < n) (token : List ℕ) where
   place_front [] h = refl
   place_front (name ∷ names) h =
       let within : length name ≤ 28 = leb-true (length name) 28 (left_of (leb (length name) 28) (all_within 28 names) h) in
-      λ i. cond (same_front n token name (omega arith) i) 0 (suc (place_front names (right_of (leb (length name) 28) (all_within 28 names) h) i))
+      λ i. cond (same_front n token name (omega arith) i) (Some 0) (option_map suc (place_front names (right_of (leb (length name) 28) (all_within 28 names) h) i))
 
   item : item_of (take n token) ≡ item_of token
   item = place_front item_names items_within

@@ -1,7 +1,8 @@
 -- The state that a reader is in, and what the headers of its loop have said.
-use Rattle.std.specs.Prelude.{ℕ, ◌+◌, false, ◌||◌, List}
+use Rattle.std.specs.Prelude.{ℕ, ◌+◌, false, ◌||◌, List, Option, Some, None}
 use Rattle.tokens.specs.Items.{item_of}
 use Rattle.token_values.specs.Words.{is_atom_site_item}
+use Rattle.rows.specs.declared.columns.Columns.{Columns}
 use Rattle.rows.specs.Columns.{no_columns, with_column}
 use Rattle.line_states.specs.declared.heads.Heads.{Heads}
 use Rattle.line_states.specs.declared.heads.State.{State}
@@ -22,11 +23,16 @@ in_state state heads = record {
   atom_site = heads.atom_site;
 }
 
+-- one of the fifteen items takes the column; any other takes none
+abbrev pub with_item : Columns → Option ℕ → ℕ → Columns
+with_item columns (Some item) column = with_column columns item column
+with_item columns None column = columns
+
 -- the header takes the next column, from 0, also where its item is none of the fifteen
 abbrev pub with_header : Heads → List ℕ → Heads
 with_header heads token = record {
   state = heads.state;
-  columns = with_column heads.columns (item_of token) heads.headers;
+  columns = with_item heads.columns (item_of token) heads.headers;
   headers = heads.headers + 1;
   atom_site = heads.atom_site || is_atom_site_item token;
 }

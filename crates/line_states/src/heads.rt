@@ -1,6 +1,6 @@
 // The state that a reader is in, and what the headers of its loop have said.
 ghost use Rattle.std.specs.Prelude.{◌≡◌, ◌<◌};
-ghost use Rattle.line_states.specs.Heads.{no_heads, start_heads, in_state, with_header};
+ghost use Rattle.line_states.specs.Heads.{no_heads, start_heads, in_state, with_item, with_header};
 
 use rows::Columns;
 
@@ -25,10 +25,9 @@ pub struct Heads {
 pub(crate) fn no_heads(state: State) -> Heads
     ensures { result ≡ no_heads state }
 {
-    let columns = rows::no_columns();
     Heads {
         state,
-        columns,
+        columns: rows::no_columns(),
         headers: 0,
         atom_site: false,
     }
@@ -44,12 +43,16 @@ pub fn start_heads() -> Heads
 pub(crate) fn in_state(state: State, heads: Heads) -> Heads
     ensures { result ≡ in_state state heads }
 {
-    let columns = heads.columns;
-    Heads {
-        state,
-        columns,
-        headers: heads.headers,
-        atom_site: heads.atom_site,
+    Heads { state, ..heads }
+}
+
+// One of the fifteen items takes the column; any other takes none.
+fn with_item(columns: Columns, item: Option<usize>, column: u8) -> Columns
+    ensures { result ≡ with_item columns item column }
+{
+    match item {
+        Some(place) => rows::with_column(columns, place, column),
+        None => columns,
     }
 }
 
@@ -58,14 +61,11 @@ pub(crate) fn with_header(heads: Heads, token: &[u8]) -> Heads
     requires { heads.headers < 64 }
     ensures { result ≡ with_header heads token.now }
 {
-    let state = heads.state;
-    let before = heads.columns;
-    let columns = rows::with_column(before, tokens::item_of(token), heads.headers as u8);
     let atom_site = token_values::is_atom_site_item(token);
     Heads {
-        state,
-        columns,
+        columns: with_item(heads.columns, tokens::item_of(token), heads.headers as u8),
         headers: heads.headers + 1,
         atom_site: heads.atom_site || atom_site,
+        ..heads
     }
 }

@@ -44,8 +44,7 @@ fn recorded(heads: Heads, token: &[u8]) -> Moved
 fn item_in(heads: Heads, token: &[u8]) -> Moved
     ensures { result ≡ item_in heads.state heads token.now }
 {
-    let state = heads.state;
-    match state {
+    match heads.state {
         State::Base => moved_to(heads, Does::Nothing),
         State::Header => recorded(heads, token),
         State::AtomLoop => moved_to(in_state(State::Base, heads), Does::Nothing),
@@ -66,8 +65,7 @@ fn first_row(heads: Heads) -> Moved
 fn other_in(heads: Heads) -> Moved
     ensures { result ≡ other_in heads.state heads }
 {
-    let state = heads.state;
-    match state {
+    match heads.state {
         State::Base => moved_to(heads, Does::Nothing),
         State::Header => first_row(heads),
         State::AtomLoop => moved_to(heads, Does::Row),

@@ -2,34 +2,44 @@
 use mathlib.Core.Path.{◌≡◌, refl, sym, ap, subst, ◌∙◌}
 use mathlib.Core.List.{List, [], ◌∷◌}
 use mathlib.Core.Bool.{Bool, true, false, ◌&&◌, not, cond, false≢true}
-use Prim.Native.Nat.{ℕ, zero, suc, ◌+◌, ◌-◌, ◌≤◌, ◌<◌}
+use Prim.Native.Nat.{ℕ, zero, suc, ◌+◌, ◌-◌, ◌*◌, ◌≤◌, ◌<◌}
 use native.Mathlib.Numerals.{add-one}
 use native.Mathlib.Omega.{arith}
 use lib.Dec.{eqb, eqb-suc-zero}
-use lib.ListN.{length, get_or, take, drop, length-drop}
-use lib.Seq.{length-take-le, drop-cons, drop-length, drop-drop, get_or-drop}
+use lib.ListN.{drop_of_length-le, length, get_or, take, drop, length-drop}
+use lib.Seq.{drop-cons, length-take-le, drop-length, drop-drop, get_or-drop}
 use borrow.Author.Tests.{eq-eqb, ne_eqb, eqb-true}
+use Rattle.std.specs.List.{prefix_len}
+use Rattle.std.specs.Simd.{first_chunks}
 use Rattle.ascii.specs.Bytes.{first}
 use Rattle.ascii.specs.Lists.{every}
 use Rattle.ascii.proofs.ListLaws.{get_d_past, tail_is}
 use Rattle.lines.specs.declared.lines.Line.{Line}
-use Rattle.lines.specs.Lines.{onto, lines_of, ending_at, LineAt, is_no_feed, feed_place, NoFeedBefore, line_length}
+use Rattle.lines.specs.Lines.{onto, lines_of, ending_at, LineAt, is_feed, is_no_feed, feed_place, NoFeedBefore, line_length}
 
 -- ---- the place of the first 10
-module _ (text : List ℕ) (i : ℕ) where
-  feed_step : i < length text → feed_place (drop i text) ≡ cond (eqb (get_or text i 0) 10) 0 (suc (feed_place (drop (i + 1) text)))
+-- where the first i bytes have no 10, the next byte decides
+module _ (text : List ℕ) (i : ℕ) (before : NoFeedBefore text i) where
+  feed_step : i < length text → feed_place (drop i text) ≡ cond (is_feed (get_or text i 0)) 0 (suc (feed_place (drop (i + 1) text)))
   unfolding feed_place
   feed_step h = rw (add-one, drop-cons text i 0)
 
-  pub feed_here : i < length text → get_or text i 0 ≡ 10 → feed_place (drop i text) ≡ 0
-  feed_here h e = feed_step h ∙ ap (λ (t : Bool). cond t 0 (suc (feed_place (drop (i + 1) text)))) (eq-eqb (get_or text i 0) 10 e)
+  pub feed_here : i < length text → get_or text i 0 ≡ 10 → i ≡ feed_place text
+  feed_here h e =
+      let none = feed_step h ∙ ap (λ (t : Bool). cond t 0 (suc (feed_place (drop (i + 1) text)))) (eq-eqb (get_or text i 0) 10 e) in
+      omega (arith, none, before.1)
 
-  pub feed_further : i < length text → (get_or text i 0 ≡ 10 → ⊥) → feed_place (drop i text) ≡ suc (feed_place (drop (i + 1) text))
-  feed_further h n = feed_step h ∙ ap (λ (t : Bool). cond t 0 (suc (feed_place (drop (i + 1) text)))) (ne_eqb (get_or text i 0) 10 n)
+  pub feed_further : i < length text → (get_or text i 0 ≡ 10 → ⊥) → NoFeedBefore text (i + 1)
+  feed_further h n =
+      let one = feed_step h ∙ ap (λ (t : Bool). cond t 0 (suc (feed_place (drop (i + 1) text)))) (ne_eqb (get_or text i 0) 10 n) in
+      (omega arith, omega (arith, one, before.1))
 
-  pub feed_none : i ≡ length text → feed_place (drop i text) ≡ 0
+  none_left : length text ≤ i → feed_place (drop i text) ≡ 0
   unfolding feed_place
-  feed_none e = rw (e, drop-length)
+  none_left h = rw (drop_of_length-le text h)
+
+  pub feed_nowhere : length text ≤ i → feed_place text ≡ length text
+  feed_nowhere h = omega (arith, none_left h, before.0, before.1)
 
 -- bytes with no 10 among them are passed together
 past_no_feed : (n : ℕ) (text : List ℕ) → n ≤ length text → every is_no_feed (take n text) ≡ true → feed_place text ≡ n + feed_place (drop n text)
@@ -44,11 +54,22 @@ past_no_feed (suc n) (b ∷ bs) h e = go (eqb b 10) e (past_no_feed n bs (omega 
     go true e further = absurd (false≢true e)
     go false e further = let on = further e in omega arith
 
-pub feed_past : (text : List ℕ) (i n : ℕ) → i + n ≤ length text → every is_no_feed (take n (drop i text)) ≡ true → NoFeedBefore text i → NoFeedBefore text (i + n)
-feed_past text i n h e before = (h, before.1 ∙ ap (λ (k : ℕ). i + k) (past_no_feed n (drop i text) (omega (arith, length-drop i text)) e) ∙ on)
+-- and so are the blocks, k of which are in the text
+pub blocks_passed : (k : ℕ) (text : List ℕ) → k * 16 ≤ length text → NoFeedBefore text (prefix_len (every is_no_feed) (first_chunks 16 k text) * 16)
+blocks_passed zero text h = (omega arith, omega arith)
+blocks_passed (suc k) text h = go (every is_no_feed (take 16 text)) refl (blocks_passed k (drop 16 text) (omega (arith, length-drop 16 text)))
   where
-    on : i + (n + feed_place (drop n (drop i text))) ≡ i + n + feed_place (drop (i + n) text)
-    on = rw (drop-drop n i text) (omega arith)
+    later : ℕ
+    later = prefix_len (every is_no_feed) (first_chunks 16 k (drop 16 text))
+
+    go : (t : Bool) → every is_no_feed (take 16 text) ≡ t → NoFeedBefore (drop 16 text) (later * 16) → NoFeedBefore text (cond t (1 + later) 0 * 16)
+    go true e rest =
+        let on : (1 + later) * 16 ≡ 16 + later * 16 = omega arith in
+        rw on (
+          omega (arith, rest.0, length-drop 16 text),
+          past_no_feed 16 text (omega arith) e ∙ ap (λ (n : ℕ). 16 + n) rest.1 ∙ rw (drop-drop (later * 16) 16 text) (omega arith),
+        )
+    go false e rest = (omega arith, omega arith)
 
 feed_is : (text : List ℕ) → feed_place text < length text → get_or text (feed_place text) 0 ≡ 10
 unfolding feed_place

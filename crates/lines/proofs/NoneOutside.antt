@@ -5,9 +5,10 @@ use mathlib.Core.Bool.{Bool, true, false, ◌&&◌, ◌||◌, cond, false≢true
 use Prim.Native.Nat.{ℕ}
 use native.Mathlib.Omega.{arith}
 use lib.Dec.{eqb}
+use Rattle.std.specs.Prelude.{Option, Some, None}
 use Rattle.ascii.specs.Bytes.{first, is_text_byte}
 use Rattle.ascii.specs.Lists.{every}
-use Rattle.lines.specs.declared.domain.Outside.TheVariants.{None, At}
+use Rattle.lines.specs.declared.domain.Outside.{Outside}
 use Rattle.lines.specs.Domain.{is_allowed, in_domain, line_after, outside_from, outside_of, stands_anywhere}
 
 none_from : (line : ℕ) (text : List ℕ) → in_domain text ≡ true → outside_from line text ≡ None
@@ -15,7 +16,7 @@ unfolding in_domain outside_from
 none_from line [] e = refl
 none_from line (b ∷ bs) e = go (is_allowed b (first bs)) e (none_from (line_after line b) bs)
   where
-    go : (t : Bool) → (t && in_domain bs) ≡ true → (in_domain bs ≡ true → outside_from (line_after line b) bs ≡ None) → cond t (outside_from (line_after line b) bs) (At line b) ≡ None
+    go : (t : Bool) → (t && in_domain bs) ≡ true → (in_domain bs ≡ true → outside_from (line_after line b) bs ≡ None) → cond t (outside_from (line_after line b) bs) (Some (record { line = line; byte = b })) ≡ None
     go true e further = further e
     go false e further = absurd (false≢true e)
 
@@ -24,10 +25,10 @@ unfolding in_domain outside_from
 domain_from line [] e = refl
 domain_from line (b ∷ bs) e = go (is_allowed b (first bs)) e (domain_from (line_after line b) bs)
   where
-    differ : At line b ≡ None → ⊥
+    differ : ◌≡◌ {A = Option Outside} (Some (record { line = line; byte = b })) None → ⊥
     differ e = let z : ◌≡◌ {A = ℕ} 0 1 = cc in omega arith
 
-    go : (t : Bool) → cond t (outside_from (line_after line b) bs) (At line b) ≡ None → (outside_from (line_after line b) bs ≡ None → in_domain bs ≡ true) → (t && in_domain bs) ≡ true
+    go : (t : Bool) → cond t (outside_from (line_after line b) bs) (Some (record { line = line; byte = b })) ≡ None → (outside_from (line_after line b) bs ≡ None → in_domain bs ≡ true) → (t && in_domain bs) ≡ true
     go true e further = further e
     go false e further = absurd (differ e)
 

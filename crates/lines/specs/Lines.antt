@@ -43,8 +43,11 @@ unfoldable pub feed_place : List ℕ → ℕ
 feed_place [] = 0
 feed_place (b ∷ bs) = cond (eqb b 10) 0 (suc (feed_place bs))
 
+abbrev pub is_feed : ℕ → Bool
+is_feed b = eqb b 10
+
 abbrev pub is_no_feed : ℕ → Bool
-is_no_feed b = not (eqb b 10)
+is_no_feed b = not (is_feed b)
 
 -- the first i bytes are in the text, and no 10 is among them
 abbrev pub NoFeedBefore : List ℕ → ℕ → Type 0

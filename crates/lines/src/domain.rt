@@ -3,54 +3,54 @@ ghost use Rattle.std.specs.Prelude.{◌≡◌, ◌+◌, ◌<◌, ◌≤◌, cond
 ghost use Rattle.ascii.specs.Lists.{every};
 ghost use Rattle.lines.specs.Domain.{stands_anywhere, line_behind, outside_of};
 
+// A byte outside the domain, and its line, counted from 1.
 #[derive(Clone, Copy)]
-pub enum Outside {
-    None,
-    // The line, counted from 1, and the byte.
-    At(usize, u8),
+pub struct Outside {
+    pub line: usize,
+    pub byte: u8,
 }
 
-// The line that follows on the byte at index i, which is in this line; 0, which no line has, where the byte is outside
-// the domain. Nearly every byte is 32 to 126, so that is asked first.
-fn line_behind(text: &[u8], i: usize, line: usize) -> usize
+// The line that follows on the byte at index i, which is in this line; none where the byte is outside the domain.
+// Nearly every byte is 32 to 126, so that is asked first.
+fn line_behind(text: &[u8], i: usize, line: usize) -> Option<usize>
     requires { (i < length text.now) × (line ≤ i + 1) }
     ensures { result ≡ line_behind line (get_or text.now i 0) (get_or text.now (i + 1) 0) }
 {
     let b = text[i];
     if b' ' <= b {
         if b <= b'~' {
-            return line;
+            return Some(line);
         }
-        return 0;
+        return None;
     }
     match b {
-        b'\t' => line,
-        b'\n' => line + 1,
+        b'\t' => Some(line),
+        b'\n' => Some(line + 1),
         b'\r' => {
             if ascii::byte_at(text, i + 1) == b'\n' {
-                return line;
+                return Some(line);
             }
-            0
+            None
         }
-        _ => 0,
+        _ => None,
     }
 }
 
 // The first byte outside the domain, and its line, by a walk that looks at each byte and the one after it.
-fn walk_to_outside(text: &[u8]) -> Outside
+fn walk_to_outside(text: &[u8]) -> Option<Outside>
     ensures { result ≡ outside_of text.now }
 {
     let mut line = 1;
-    let mut i = 0;
-    while i < text.len() {
-        let next = line_behind(text, i, line);
-        if next == 0 {
-            return Outside::At(line, text[i]);
-        }
+    for i in 0..text.len() {
+        let Some(next) = line_behind(text, i, line) else {
+            return Some(Outside {
+                line,
+                byte: text[i],
+            });
+        };
         line = next;
-        i += 1;
     }
-    Outside::None
+    None
 }
 
 // 0 for a byte that may stand anywhere, else 1.
@@ -78,23 +78,21 @@ fn none_odd(text: &[u8]) -> bool
     ensures { result ≡ every stands_anywhere text.now }
 {
     let mut most: u8 = 0;
-    let mut i = 0;
-    while i < text.len() {
-        let odd = oddness(text[i]);
+    for b in text {
+        let odd = oddness(*b);
         if most < odd {
             most = odd;
         }
-        i += 1;
     }
     most == 0
 }
 
 // The first byte outside the domain, and its line. Nearly every text has bytes alone that may stand anywhere.
-pub fn first_outside(text: &[u8]) -> Outside
+pub fn first_outside(text: &[u8]) -> Option<Outside>
     ensures { result ≡ outside_of text.now }
 {
     if none_odd(text) {
-        return Outside::None;
+        return None;
     }
     walk_to_outside(text)
 }

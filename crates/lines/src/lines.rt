@@ -1,5 +1,5 @@
 // The lines of a text, each a part of it: where a line ends, and where the next one begins.
-ghost use Rattle.std.specs.Prelude.{◌≡◌, ◌<◌, cond, length};
+ghost use Rattle.std.specs.Prelude.{◌≡◌, ◌<◌, cond, length, MatchOption};
 ghost use Rattle.ascii.specs.Lists.{every};
 ghost use Rattle.lines.specs.Lines.{is_no_feed, feed_place, NoFeedBefore, line_length, LineOrEnd};
 
@@ -25,17 +25,14 @@ const BLOCK: usize = 16;
 
 // Whether there is no 10 in a block.
 fn has_no_feed(block: &[u8]) -> bool
-    requires { length block.now ≡ 16 }
     ensures { result ≡ every is_no_feed block.now }
 {
     let mut most: u8 = 0;
-    let mut i = 0;
-    while i < BLOCK {
-        let mark = feed_mark(block[i]);
+    for b in block {
+        let mark = feed_mark(*b);
         if most < mark {
             most = mark;
         }
-        i += 1;
     }
     most == 0
 }
@@ -44,29 +41,25 @@ fn has_no_feed(block: &[u8]) -> bool
 fn past_blocks(text: &[u8]) -> usize
     ensures { NoFeedBefore text.now result }
 {
-    let mut i = 0;
-    while BLOCK <= text.len() - i {
-        if !has_no_feed(&text[i..i + BLOCK]) {
-            return i;
-        }
-        i += BLOCK;
-    }
-    i
+    let (blocks, _) = text.as_chunks::<BLOCK>();
+    let passed = blocks
+        .iter()
+        .take_while(|block| has_no_feed(*block))
+        .count();
+    passed * BLOCK
 }
 
-// How many bytes stand before the first 10, all where there is none. Every byte of a text passes here, so nothing else
-// is asked of it, and most are passed in blocks.
-fn feed_place(text: &[u8]) -> usize
-    ensures { result ≡ feed_place text.now }
+// The place of the first 10. Every byte of a text passes here, so nothing else is asked of it, and most are passed in
+// blocks.
+fn feed_place(text: &[u8]) -> Option<usize>
+    ensures { MatchOption result (feed_place text.now ≡ length text.now) (λ i. (i ≡ feed_place text.now) × (i < length text.now)) }
 {
-    let mut i = past_blocks(text);
-    while i < text.len() {
+    for i in past_blocks(text)..text.len() {
         if text[i] == b'\n' {
-            return i;
+            return Some(i);
         }
-        i += 1;
     }
-    i
+    None
 }
 
 // The length of the line before the 10 at this place: a 13 directly before the 10 belongs to the ending.
@@ -95,13 +88,12 @@ pub(crate) fn line_at(text: &[u8], from: usize) -> Line
         };
     }
     let rest = &text[from..];
-    let feed = feed_place(rest);
-    if rest.len() <= feed {
+    let Some(feed) = feed_place(rest) else {
         return Line {
             end: size,
             next: size,
         };
-    }
+    };
     Line {
         end: from + line_length(rest, feed),
         next: from + feed + 1,

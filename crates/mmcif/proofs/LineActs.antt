@@ -4,6 +4,8 @@ use mathlib.Core.Path.{◌≡◌, refl, subst}
 use mathlib.Core.Bool.{Bool, true, false, cond}
 use mathlib.Core.List.{List}
 use Prim.Native.Nat.{ℕ, ◌≤◌, ◌<◌}
+use Rattle.std.specs.Prelude.{Option, Some, None, Result, Ok, Err}
+use Rattle.refusals.specs.declared.reasons.Reason.{Reason}
 use lib.Dec.{ltb}
 use lib.ListN.{length}
 use borrow.Author.Tests.{ltb-true, ltb-false, lt-ltb, le-ltb}
@@ -12,8 +14,6 @@ use Rattle.tokens.specs.Longest.{longest}
 use Rattle.rows.specs.Fields.{fields_of}
 use Rattle.rows.specs.Rules.{row_of}
 use Rattle.rows.specs.declared.columns.Columns.{Columns}
-use Rattle.rows.specs.declared.rules.Row.{Row}
-use Rattle.rows.specs.declared.rules.Row.TheVariants.{Refused, Skipped, Kept}
 use Rattle.rows.specs.declared.rules.Site.{Site}
 use Rattle.rows.specs.declared.settings.Settings.{Settings}
 use Rattle.line_states.specs.States.{moved_by}
@@ -45,10 +45,10 @@ module _ (settings : Settings) (heads : Heads) (line : List ℕ) where
       go false h k = k refl
 
 -- ---- what is kept
-row_finite : (row : Row) → ((s : Site) → row ≡ Kept s → Finite s.occupancy) → FiniteIn (row_act row)
-row_finite (Refused why) h = tt
-row_finite Skipped h = tt
-row_finite (Kept s) h = h s refl
+row_finite : (row : Result (Option Site) Reason) → ((s : Site) → row ≡ Ok (Some s) → Finite s.occupancy) → FiniteIn (row_act row)
+row_finite (Err why) h = tt
+row_finite (Ok None) h = tt
+row_finite (Ok (Some s)) h = h s refl
 
 does_finite : (settings : Settings) (line : List ℕ) (columns : Columns) (does : Does) → FiniteIn (act_by settings line columns does)
 does_finite settings line columns Nothing = tt

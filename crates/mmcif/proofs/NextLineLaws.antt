@@ -1,11 +1,12 @@
 -- A line is taken: what it asks for is done to what is held, or its row waits; and the lines behind it still make what they made.
-use Prim.{tt}
+use Prim.{Unit, tt}
 use mathlib.Core.Path.{◌≡◌, refl, sym, ap, ◌∙◌, subst}
 use mathlib.Core.List.{List, ◌∷◌}
 use Prim.Native.Nat.{ℕ, suc, ◌-◌, ◌^◌, ◌≤◌, ◌<◌}
 use native.Mathlib.Omega.{arith}
 use lib.ListN.{length, take, drop}
 use borrow.Author.Tests.{lt-ltb}
+use Rattle.std.specs.Prelude.{Option, Some, None, Result}
 use Rattle.lines.specs.Lines.{lines_of, LineAt}
 use Rattle.lines.specs.declared.lines.Line.{Line}
 use Rattle.rows.specs.declared.rules.Site.{Site}
@@ -16,19 +17,18 @@ use Rattle.model.specs.Fold.{State, step}
 use Rattle.model.specs.Taken.{skipped}
 use Rattle.model.specs.declared.room.Room.{Room}
 use Rattle.refusals.specs.Reasons.{at}
+use Rattle.refusals.specs.declared.reasons.Refusal.{Refusal}
 use Rattle.building.specs.Holds.{Records}
 use Rattle.acts.specs.Acts.{Asked, GoesOn}
 use Rattle.acts.specs.Making.{Making, going, halted, done, and_then, made}
 use Rattle.acts.specs.Standing.{Stands, FiniteIn, passed_at}
 use Rattle.acts.specs.declared.act.Act.{Act}
 use Rattle.acts.specs.declared.act.Act.TheVariants.{Pass, Skip, Keep, Refuse}
-use Rattle.acts.specs.declared.doing.Halt.{Halt}
 use Rattle.acts.proofs.ActLaws.{passed_stands}
 use Rattle.acts.proofs.MadeByRows.{done_goes}
 use Rattle.mmcif.specs.declared.plans.Plan.{Plan}
 use Rattle.mmcif.specs.declared.stages.Stage.{Stage}
 use Rattle.mmcif.specs.declared.stages.Waiting.{Waiting}
-use Rattle.mmcif.specs.declared.stages.Waiting.TheVariants.{Nothing, Row}
 use Rattle.mmcif.specs.Acts.{line_act, acts_from}
 use Rattle.mmcif.specs.Plans.{plan_of}
 use Rattle.mmcif.specs.Stages.{onward_to, number_after, met, Inside, rest, Placed, Between, Reached}
@@ -46,14 +46,14 @@ unfolding made acts_from
 first_then settings room number heads st line lines = refl
 
 -- what waits after a line of this act
-abbrev pub waiting_by : ℕ → Act → Waiting
-waiting_by number Pass = Nothing
-waiting_by number Skip = Nothing
-waiting_by number (Keep s) = Row number s
-waiting_by number (Refuse why) = Nothing
+abbrev pub waiting_by : ℕ → Act → Option Waiting
+waiting_by number Pass = None
+waiting_by number Skip = None
+waiting_by number (Keep s) = Some (record { line = number; site = s })
+waiting_by number (Refuse why) = None
 
 -- none does where the act keeps no site
-pub none_kept : (number : ℕ) (act : Act) → ((s : Site) → act ≡ Keep s → ⊥) → waiting_by number act ≡ Nothing
+pub none_kept : (number : ℕ) (act : Act) → ((s : Site) → act ≡ Keep s → ⊥) → waiting_by number act ≡ None
 none_kept number Pass other = refl
 none_kept number Skip other = refl
 none_kept number (Keep s) other = absurd (other s refl)
@@ -69,7 +69,7 @@ module _ (text : List ℕ) (settings : Settings) (from : Stage) (few : suc (leng
   abbrev asked : Act → Asked
   asked act = record { line = from.number; act = act }
 
-  abbrev passed : Act → Halt
+  abbrev passed : Act → Result (Unit {0}) Refusal
   passed act = (passed_at from.number from.standing.held act).halt
 
   abbrev place_by : Act → ℕ

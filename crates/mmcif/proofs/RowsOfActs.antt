@@ -2,11 +2,12 @@
 use mathlib.Core.Path.{◌≡◌, refl, sym, ap, ◌∙◌}
 use mathlib.Core.List.{List, [], ◌∷◌, ◌++◌, append_assoc}
 use Prim.Native.Nat.{ℕ, suc}
+use Rattle.std.specs.Prelude.{Option, Some, None, Result, Ok, Err}
+use Rattle.refusals.specs.declared.reasons.Reason.{Reason}
 use Rattle.rows.specs.Fields.{fields_of}
 use Rattle.rows.specs.Rules.{row_of}
 use Rattle.rows.specs.declared.columns.Columns.{Columns}
-use Rattle.rows.specs.declared.rules.Row.{Row}
-use Rattle.rows.specs.declared.rules.Row.TheVariants.{Refused, Skipped, Kept}
+use Rattle.rows.specs.declared.rules.Site.{Site}
 use Rattle.rows.specs.declared.settings.Settings.{Settings}
 use Rattle.line_states.specs.States.{moved_by}
 use Rattle.line_states.specs.declared.heads.Heads.{Heads}
@@ -19,10 +20,10 @@ use Rattle.mmcif.specs.Rows.{row_taken, taken_by, rows_from}
 use Rattle.mmcif.proofs.LineActs.{short_act, short_enough}
 
 -- ---- one line
-row_taken_lem : (row : Row) → row_in (row_act row) ≡ row_taken row
-row_taken_lem (Refused why) = refl
-row_taken_lem Skipped = refl
-row_taken_lem (Kept s) = refl
+row_taken_lem : (row : Result (Option Site) Reason) → row_in (row_act row) ≡ row_taken row
+row_taken_lem (Err why) = refl
+row_taken_lem (Ok None) = refl
+row_taken_lem (Ok (Some s)) = refl
 
 pub taken_by_lem : (settings : Settings) (line : List ℕ) (columns : Columns) (does : Does) → row_in (act_by settings line columns does) ≡ taken_by does (row_of settings (fields_of columns line))
 taken_by_lem settings line columns Nothing = refl

@@ -1,11 +1,12 @@
 -- Row after row of one chain: its name stands at its place before the first, so that the chain list stays as it is, and it is found there for each.
 use mathlib.Core.Path.{◌≡◌, refl, sym, ap, ◌∙◌, subst}
-use mathlib.Core.Bool.{Bool, true, false, false≢true}
+use mathlib.Core.Bool.{true, false, false≢true}
 use mathlib.Core.List.{List}
 use Prim.Native.Nat.{ℕ, suc, ◌^◌, ◌≤◌, ◌<◌}
 use native.Mathlib.Omega.{arith}
 use lib.ListN.{length, take, set}
 use borrow.Author.Tests.{eqb-true}
+use Rattle.std.specs.Prelude.{Option, Some, None}
 use Rattle.rows.specs.declared.rules.Site.{Site}
 use Rattle.rows.specs.declared.settings.Settings.{Settings}
 use Rattle.model.specs.Lists.{count}
@@ -19,29 +20,27 @@ use Rattle.acts.specs.declared.doing.Standing.{Standing}
 use Rattle.acts.proofs.LengthLaws.{lengths_same, lengths_then}
 use Rattle.mmcif.specs.declared.stages.Stage.{Stage}
 use Rattle.mmcif.specs.declared.stages.Waiting.{Waiting}
-use Rattle.mmcif.specs.declared.stages.Waiting.TheVariants.{Nothing, Row}
-use Rattle.mmcif.specs.Stages.{chain_in, is_waiting, is_of, is_own, left, met, Inside, Between, Before, ReachedBy, Reached, GoesOnTo, PutBy, PutsWaiting, Walks}
+use Rattle.mmcif.specs.Stages.{chain_in, is_waiting, is_of, run_of, is_own, left, met, Inside, Between, Before, ReachedBy, Reached, GoesOnTo, PutBy, PutsWaiting, Walks}
 use Rattle.mmcif.proofs.StageLaws.{between, at_between, inside_between, row_put}
 
 -- the row that waits
-record RowOf (w : Waiting) : Type 0 where
-  line : ℕ
-  site : Site
-  this : w ≡ Row line site
+record RowOf (w : Option Waiting) : Type 0 where
+  row : Waiting
+  this : w ≡ Some row
 
-row_of_lem : (w : Waiting) → is_waiting w ≡ true → RowOf w
-row_of_lem Nothing e = absurd (false≢true e)
-row_of_lem (Row line s) e = record { line = line; site = s; this = refl }
+row_of_lem : (w : Option Waiting) → is_waiting w ≡ true → RowOf w
+row_of_lem None e = absurd (false≢true e)
+row_of_lem (Some row) e = record { row = row; this = refl }
 
 -- a row of this chain waits, and so one does
-waits_of : (w : Waiting) (name : ℕ) → is_of w name ≡ true → (is_waiting w ≡ true) × (chain_in w ≡ name)
-waits_of Nothing name e = absurd (false≢true e)
-waits_of (Row line s) name e = (refl, eqb-true s.chain name e)
+waits_of : (w : Option Waiting) (name : ℕ) → is_of w name ≡ true → (is_waiting w ≡ true) × (chain_in w ≡ name)
+waits_of None name e = absurd (false≢true e)
+waits_of (Some row) name e = (refl, eqb-true row.site.chain name e)
 
 -- a run goes on with a row of its chain
-own_of : (runs : Bool) (w : Waiting) (name : ℕ) → is_own runs w name ≡ true → (runs ≡ true) × (is_of w name ≡ true)
-own_of true w name e = (refl, e)
-own_of false w name e = absurd (false≢true e)
+own_of : (first w : Option Waiting) → is_own (run_of first) w ≡ true → (is_waiting first ≡ true) × (is_of w (chain_in first) ≡ true)
+own_of (Some row) w e = (refl, e)
+own_of None w e = absurd (false≢true e)
 
 -- a name that stands at a place stands there in the same list
 still : (l m : List ℕ) (place name : ℕ) → m ≡ l → set l place name ≡ l → set m place name ≡ m
@@ -129,17 +128,20 @@ module _ (text : List ℕ) (settings : Settings) (room : Room) (place : ℕ) (fr
     inside_next i = g.inside (inside_between text settings s kept (o.inside i))
 
     module _ (waits : is_waiting from.waiting ≡ true) where
-      row : RowOf s.waiting
-      row = row_of_lem s.waiting (o.own waits).0
+      found_row : RowOf s.waiting
+      found_row = row_of_lem s.waiting (o.own waits).0
+
+      abbrev row : Waiting
+      row = found_row.row
 
       named : row.site.chain ≡ name
-      named = sym (ap chain_in row.this) ∙ (o.own waits).1
+      named = sym (ap chain_in found_row.this) ∙ (o.own waits).1
 
       pub nearer : left text to < left text s
       nearer = omega (arith, g.fewer, at_between text settings s kept kept.halt, ap count (o.own waits).0)
 
       keeps : ChainFound (take (met s) mid.chains) row.site.chain place → Keeps mid room row.line s.standing.held row.site kept (stored_in after place name)
-      keeps = subst (λ (w : Waiting). PutBy w room place s kept mid (stored_in after place name)) row.this
+      keeps = subst (λ (w : Option Waiting). PutBy w room place s kept mid (stored_in after place name)) found_row.this
           (subst (λ (n : ℕ). PutBy s.waiting room place s kept mid (stored_in after place n)) (o.own waits).1 p.puts)
 
       module _ (stored : Stored text settings room place name r.chains) (f : Found text settings room place name (met from) r.chains) where
@@ -154,15 +156,15 @@ module _ (text : List ℕ) (settings : Settings) (room : Room) (place : ℕ) (fr
         reached_next : Inside text from → (target : Making) → Reached text settings room target from r → Reached text settings room target to after
         reached_next i target q =
             let b : Before text settings room target row.line row.site s mid
-            = subst (λ (w : Waiting). ReachedBy w text settings room target s mid) row.this (o.reached i waits f stored target q) in
+            = subst (λ (w : Option Waiting). ReachedBy w text settings room target s mid) found_row.this (o.reached i waits f stored target q) in
             g.reached (inside_between text settings s kept (o.inside i)) room target after
             (put_after text settings room place name few s row.line row.site named kept mid after same keeps stored_here (o.found waits stored f) (o.inside i) target b)
 
     -- with a row of the chain
-    pub one_row : is_own (is_waiting from.waiting) to.waiting name ≡ true → OnTheRun to after
+    pub one_row : is_own (run_of from.waiting) to.waiting ≡ true → OnTheRun to after
     one_row e =
-        let waits = (own_of (is_waiting from.waiting) to.waiting name e).0 in
-        let mine = waits_of to.waiting name (own_of (is_waiting from.waiting) to.waiting name e).1 in
+        let waits = (own_of from.waiting to.waiting e).0 in
+        let mine = waits_of to.waiting name (own_of from.waiting to.waiting e).1 in
         record {
           lengths = lengths_so_far;
           chains = same ∙ o.chains;
@@ -174,8 +176,8 @@ module _ (text : List ℕ) (settings : Settings) (room : Room) (place : ℕ) (fr
           reached = λ i first f stored. reached_next first stored f i;
         }
 
-    pub less : is_own (is_waiting from.waiting) to.waiting name ≡ true → left text to < left text s
-    less e = nearer (own_of (is_waiting from.waiting) to.waiting name e).0
+    pub less : is_own (run_of from.waiting) to.waiting ≡ true → left text to < left text s
+    less e = nearer (own_of from.waiting to.waiting e).0
 
     -- or with none
     pub run_taken : Walks text settings room place from to r after
@@ -194,6 +196,6 @@ module _ (text : List ℕ) (settings : Settings) (room : Room) (place : ℕ) (fr
           (subst (λ (x : Standing). GoesOnTo text settings (between text settings s x) to) stood g);
     }
       where
-        stood_by : (w : Waiting) → is_waiting w ≡ false → PutBy w room place s kept mid (stored_in after place (chain_in s.waiting)) → kept ≡ s.standing
-        stood_by Nothing e q = q
-        stood_by (Row line site) e q = absurd (false≢true (sym e))
+        stood_by : (w : Option Waiting) → is_waiting w ≡ false → PutBy w room place s kept mid (stored_in after place (chain_in s.waiting)) → kept ≡ s.standing
+        stood_by None e q = q
+        stood_by (Some row) e q = absurd (false≢true (sym e))

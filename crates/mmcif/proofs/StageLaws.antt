@@ -1,10 +1,13 @@
 -- From stage to stage: lines are taken while none waits, up to the row that waits or to the end; a row that waits is put in, and lines are taken again.
+use Prim.{Unit}
 use mathlib.Core.Path.{◌≡◌, refl, sym, ap, ◌∙◌, subst}
 use mathlib.Core.Bool.{true, false≢true}
 use mathlib.Core.List.{List}
 use Prim.Native.Nat.{ℕ, suc, ◌+◌, ◌-◌, ◌^◌, ◌≤◌, ◌<◌}
 use native.Mathlib.Omega.{arith}
 use lib.ListN.{length, take, drop}
+use Rattle.std.specs.Prelude.{Option, Some, None, Result, Ok, Err}
+use Rattle.refusals.specs.declared.reasons.Refusal.{Refusal}
 use Rattle.lines.specs.Lines.{LineAt}
 use Rattle.lines.specs.declared.lines.Line.{Line}
 use Rattle.rows.specs.declared.rules.Site.{Site}
@@ -16,20 +19,17 @@ use Rattle.acts.specs.Making.{Making, going, halted, done, and_then}
 use Rattle.acts.specs.Standing.{Stands, Acts}
 use Rattle.acts.specs.declared.act.Act.{Act}
 use Rattle.acts.specs.declared.act.Act.TheVariants.{Keep}
-use Rattle.acts.specs.declared.doing.Halt.{Halt}
-use Rattle.acts.specs.declared.doing.Halt.TheVariants.{Going, Refused}
 use Rattle.acts.specs.declared.doing.Standing.{Standing}
 use Rattle.acts.proofs.RowsGrow.{RowsWithin, rows_grow}
 use Rattle.mmcif.specs.declared.stages.Stage.{Stage}
 use Rattle.mmcif.specs.declared.stages.Waiting.{Waiting}
-use Rattle.mmcif.specs.declared.stages.Waiting.TheVariants.{Nothing, Row}
 use Rattle.mmcif.specs.Plans.{plan_of}
 use Rattle.mmcif.specs.Stages.{onward_to, is_waiting, stage_at, met, Inside, rest, Placed, Between, Before, ReachedBy, Reached, GoesOnTo}
 use Rattle.mmcif.proofs.NextLineLaws.{waiting_by, stage_with, next_moves, none_met, next_inside, next_reached}
 
-at_most_one : (w : Waiting) → count (is_waiting w) ≤ 1
-at_most_one Nothing = omega arith
-at_most_one (Row line s) = omega arith
+at_most_one : (w : Option Waiting) → count (is_waiting w) ≤ 1
+at_most_one None = omega arith
+at_most_one (Some row) = omega arith
 
 module _ (text : List ℕ) (settings : Settings) where
   -- so far, with none that waits
@@ -57,12 +57,12 @@ module _ (text : List ℕ) (settings : Settings) where
     further_on = omega (arith, moves.0, more)
 
     -- a line whose row does not wait
-    pub one_line : waiting_by s.number act ≡ Nothing → OnTheWay from next
+    pub one_line : waiting_by s.number act ≡ None → OnTheWay from next
     one_line none = record {
       fewer = omega (arith, further_on, w.fewer);
       chains = none_met text settings s few more line l act ∙ w.chains;
       inside = λ i. next_inside text settings s few more line l (w.inside i) act;
-      reached = λ i room target r b. subst (λ (x : Waiting). ReachedBy x text settings room target next r) none (reached_next i room target r b);
+      reached = λ i room target r b. subst (λ (x : Option Waiting). ReachedBy x text settings room target next r) none (reached_next i room target r b);
     }
 
     -- a line whose row does
@@ -76,13 +76,13 @@ module _ (text : List ℕ) (settings : Settings) where
     }
 
   -- no line is left
-  pub at_end_lem : (from s : Stage) → OnTheWay from s → s.waiting ≡ Nothing → length text ≤ s.at → GoesOnTo text settings from s
+  pub at_end_lem : (from s : Stage) → OnTheWay from s → s.waiting ≡ None → length text ≤ s.at → GoesOnTo text settings from s
   at_end_lem from s w none e = record {
     stops = λ h. e;
-    fewer = omega (arith, w.fewer, ap (λ (x : Waiting). count (is_waiting x)) none);
+    fewer = omega (arith, w.fewer, ap (λ (x : Option Waiting). count (is_waiting x)) none);
     chains = w.chains;
     inside = w.inside;
-    reached = λ i room target r b. subst (λ (x : Waiting). ReachedBy x text settings room target s r) (sym none) (w.reached i room target r b);
+    reached = λ i room target r b. subst (λ (x : Option Waiting). ReachedBy x text settings room target s r) (sym none) (w.reached i room target r b);
   }
 
   -- ---- the row that waits
@@ -91,16 +91,16 @@ module _ (text : List ℕ) (settings : Settings) where
     abbrev pub between : Stage
     between = stage_at (onward_to kept.halt from.at (length text)) from.number from.heads kept
 
-    pub at_between : (halt : Halt) → length text - onward_to halt from.at (length text) ≤ length text - from.at
-    at_between Going = omega arith
-    at_between (Refused why) = omega arith
+    pub at_between : (halt : Result (Unit {0}) Refusal) → length text - onward_to halt from.at (length text) ≤ length text - from.at
+    at_between (Ok u) = omega arith
+    at_between (Err why) = omega arith
 
     pub inside_between : Inside text from → Inside text between
     inside_between i = go kept.halt
       where
-        go : (halt : Halt) → (onward_to halt from.at (length text) ≤ length text) × (from.number ≤ onward_to halt from.at (length text) + 1)
-        go Going = i
-        go (Refused why) = (omega arith, omega (arith, i.0, i.1))
+        go : (halt : Result (Unit {0}) Refusal) → (onward_to halt from.at (length text) ≤ length text) × (from.number ≤ onward_to halt from.at (length text) + 1)
+        go (Ok u) = i
+        go (Err why) = (omega arith, omega (arith, i.0, i.1))
 
     module _ (room : Room) (r after : Records) (line : ℕ) (site : Site) (acts : Acts r room from.standing.held (record { line = line; act = Keep site }) kept after)
         (i : Inside text from) (few : suc (length text) < 2 ^ 64) (target : Making) (b : Before text settings room target line site from r) where
@@ -112,10 +112,10 @@ module _ (text : List ℕ) (settings : Settings) where
 
       placed_by : (m : Making) → Stands room after kept m → RowsWithin (suc b.st.rows) m → Placed text between m
       placed_by (going st) s grown = omega (arith, b.rows, b.numbered)
-      placed_by (halted why) s grown = ap (λ (halt : Halt). onward_to halt from.at (length text)) s
+      placed_by (halted why) s grown = ap (λ (halt : Result (Unit {0}) Refusal). onward_to halt from.at (length text)) s
 
       same_rest : (m : Making) → Stands room after kept m → and_then m (rest text settings room between) ≡ and_then m (rest text settings room from)
-      same_rest (going st) s = ap (λ (halt : Halt). rest text settings room (stage_at (onward_to halt from.at (length text)) from.number from.heads kept) st) s.0
+      same_rest (going st) s = ap (λ (halt : Result (Unit {0}) Refusal). rest text settings room (stage_at (onward_to halt from.at (length text)) from.number from.heads kept) st) s.0
       same_rest (halted why) s = refl
 
       pub row_put : Between text settings room target between after

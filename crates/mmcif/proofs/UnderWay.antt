@@ -1,5 +1,6 @@
 -- Rows under way: from wherever the reading stands, its finish is the target, so that the last row leaves the target itself. Whoever holds the chain list finds the chain of the
 -- row that waits, stores its name there, and has its run taken.
+use Prim.{Unit}
 use mathlib.Core.Path.{◌≡◌, refl, sym, ◌∙◌, subst}
 use mathlib.Core.Bool.{true, false, false≢true}
 use mathlib.Core.List.{List}
@@ -7,6 +8,8 @@ use Prim.Native.Nat.{ℕ, ◌≤◌, ◌<◌}
 use native.Mathlib.Omega.{arith}
 use lib.ListN.{length, take, drop, length-set, drop_of_length-le}
 use lib.Seq.{set-set}
+use Rattle.std.specs.Prelude.{Option, Some, None, Result, Ok, Err}
+use Rattle.refusals.specs.declared.reasons.Refusal.{Refusal}
 use Rattle.lines.specs.Lines.{lines_of}
 use Rattle.rows.specs.declared.settings.Settings.{Settings}
 use Rattle.line_states.specs.declared.heads.Heads.{Heads}
@@ -18,12 +21,9 @@ use Rattle.building.proofs.ChainsStored.{met_stay, stored_in, stored_held}
 use Rattle.building.proofs.SiteLaws.{start_held}
 use Rattle.acts.specs.Making.{Making, going, halted, and_then, made}
 use Rattle.acts.specs.Standing.{Stands, ahead, Passes}
-use Rattle.acts.specs.declared.doing.Halt.{Halt}
-use Rattle.acts.specs.declared.doing.Halt.TheVariants.{Going, Refused}
 use Rattle.acts.proofs.LengthLaws.{lengths_same, lengths_then}
 use Rattle.mmcif.specs.declared.stages.Stage.{Stage}
 use Rattle.mmcif.specs.declared.stages.Waiting.{Waiting}
-use Rattle.mmcif.specs.declared.stages.Waiting.TheVariants.{Nothing, Row}
 use Rattle.mmcif.specs.Acts.{acts_from, acts_of}
 use Rattle.mmcif.specs.Stages.{chain_in, is_waiting, first_stage, left, met, Inside, rest, Between, ReachedBy, Reached, GoesOnTo, TakesRun}
 
@@ -35,16 +35,16 @@ pub record UnderWay (text : List ℕ) (settings : Settings) (room : Room) (first
   pub reached : Within room first → Reached text settings room target s r
 
 -- ---- before the first row
-first_inside : (text : List ℕ) (halt : Halt) → Inside text (first_stage halt (length text))
-first_inside text Going = (omega arith, omega arith)
-first_inside text (Refused why) = (omega arith, omega arith)
+first_inside : (text : List ℕ) (halt : Result (Unit {0}) Refusal) → Inside text (first_stage halt (length text))
+first_inside text (Ok u) = (omega arith, omega arith)
+first_inside text (Err why) = (omega arith, omega arith)
 
-first_reached : (text : List ℕ) (settings : Settings) (room : Room) (r : Records) (halt : Halt) → Within room r
+first_reached : (text : List ℕ) (settings : Settings) (room : Room) (r : Records) (halt : Result (Unit {0}) Refusal) → Within room r
     → Between text settings room (ahead halt (made room start (acts_of settings text))) (first_stage halt (length text)) r
-first_reached text settings room r Going w = record { making = going start; stands = (refl, start_held r room w); placed = omega arith; finish = refl }
-first_reached text settings room r (Refused why) w = record { making = halted why; stands = refl; placed = refl; finish = refl }
+first_reached text settings room r (Ok u) w = record { making = going start; stands = (refl, start_held r room w); placed = omega arith; finish = refl }
+first_reached text settings room r (Err why) w = record { making = halted why; stands = refl; placed = refl; finish = refl }
 
-pub begins : (text : List ℕ) (settings : Settings) (room : Room) (r : Records) (halt : Halt) (s : Stage) → GoesOnTo text settings (first_stage halt (length text)) s
+pub begins : (text : List ℕ) (settings : Settings) (room : Room) (r : Records) (halt : Result (Unit {0}) Refusal) (s : Stage) → GoesOnTo text settings (first_stage halt (length text)) s
     → UnderWay text settings room r (ahead halt (made room start (acts_of settings text))) s r
 begins text settings room r halt s g = record {
   inside = g.inside (first_inside text halt);
@@ -66,9 +66,9 @@ module _ {text : List ℕ} {settings : Settings} {room : Room} {first : Records}
       here (going st) = sym (none_left text settings room s.number s.at s.heads st (u.stops none))
       here (halted why) = refl
 
-      by_waiting : (w : Waiting) → is_waiting w ≡ false → ReachedBy w text settings room target s r → Stands room r s.standing target
-      by_waiting Nothing e q = subst (Stands room r s.standing) (here q.making ∙ q.finish) q.stands
-      by_waiting (Row line site) e q = absurd (false≢true (sym e))
+      by_waiting : (w : Option Waiting) → is_waiting w ≡ false → ReachedBy w text settings room target s r → Stands room r s.standing target
+      by_waiting None e q = subst (Stands room r s.standing) (here q.making ∙ q.finish) q.stands
+      by_waiting (Some row) e q = absurd (false≢true (sym e))
 
   -- ---- a run, its chain found at this place, where the name is stored
   module _ (waits : is_waiting s.waiting ≡ true) (place : ℕ) (found : ChainFound (take (met s) r.chains) (chain_in s.waiting) place) where
@@ -97,9 +97,9 @@ module _ {text : List ℕ} {settings : Settings} {room : Room} {first : Records}
     reached_stored : Reached text settings room target s r → Reached text settings room target s stored
     reached_stored = go s.waiting waits
       where
-        go : (w : Waiting) → is_waiting w ≡ true → ReachedBy w text settings room target s r → ReachedBy w text settings room target s stored
-        go Nothing e q = absurd (false≢true e)
-        go (Row line site) e q = record {
+        go : (w : Option Waiting) → is_waiting w ≡ true → ReachedBy w text settings room target s r → ReachedBy w text settings room target s stored
+        go None e q = absurd (false≢true e)
+        go (Some row) e q = record {
           st = q.st;
           going = q.going;
           holds = stored_held r room s.standing.held q.st name place found q.holds;

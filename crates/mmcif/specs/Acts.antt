@@ -1,13 +1,13 @@
 -- What an mmCIF text asks for, line by line: a line too long first, then what document 01's table of states says of it, and of a row what the row rules say.
-use Rattle.std.specs.Prelude.{cond, List, [], ◌∷◌, ℕ, suc, ltb, length}
+use Rattle.std.specs.Prelude.{cond, List, [], ◌∷◌, ℕ, suc, ltb, length, Option, Some, None, Result, Ok, Err}
+use Rattle.refusals.specs.declared.reasons.Reason.{Reason}
 use Rattle.refusals.specs.declared.reasons.Reason.TheVariants as reason
 use Rattle.tokens.specs.Longest.{longest}
 use Rattle.lines.specs.Lines.{lines_of}
 use Rattle.rows.specs.Fields.{fields_of}
 use Rattle.rows.specs.Rules.{row_of}
 use Rattle.rows.specs.declared.columns.Columns.{Columns}
-use Rattle.rows.specs.declared.rules.Row.{Row}
-use Rattle.rows.specs.declared.rules.Row.TheVariants.{Refused, Skipped, Kept}
+use Rattle.rows.specs.declared.rules.Site.{Site}
 use Rattle.rows.specs.declared.settings.Settings.{Settings}
 use Rattle.line_states.specs.Heads.{start_heads}
 use Rattle.line_states.specs.States.{moved_by}
@@ -21,10 +21,10 @@ use Rattle.acts.specs.declared.act.Act.TheVariants.{Pass, Skip, Keep, Refuse}
 
 -- ---- one line
 
-abbrev pub row_act : Row → Act
-row_act (Refused why) = Refuse why
-row_act Skipped = Skip
-row_act (Kept s) = Keep s
+abbrev pub row_act : Result (Option Site) Reason → Act
+row_act (Err why) = Refuse why
+row_act (Ok None) = Skip
+row_act (Ok (Some s)) = Keep s
 
 abbrev pub act_by : Settings → List ℕ → Columns → Does → Act
 act_by settings line columns Nothing = Pass

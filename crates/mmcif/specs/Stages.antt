@@ -1,5 +1,7 @@
 -- How the code goes from row to row: a stage, what it stands for, and what is promised of each step. All lines together make the target, and a stage stands for having come so far.
-use Rattle.std.specs.Prelude.{◌≡◌, Bool, true, false, cond, List, ℕ, suc, ◌+◌, ◌-◌, ◌≤◌, ◌<◌, eqb, ltb, length, take, drop, set}
+use Prim.{Unit, tt}
+use Rattle.std.specs.Prelude.{◌≡◌, Bool, true, false, cond, List, ℕ, suc, ◌+◌, ◌-◌, ◌≤◌, ◌<◌, eqb, ltb, length, take, drop, set, Option, Some, None, Result, Ok, Err}
+use Rattle.refusals.specs.declared.reasons.Refusal.{Refusal}
 use Rattle.lines.specs.Lines.{lines_of}
 use Rattle.rows.specs.declared.rules.Site.{Site}
 use Rattle.rows.specs.declared.settings.Settings.{Settings}
@@ -15,48 +17,54 @@ use Rattle.building.specs.Slices.{ChainFound}
 use Rattle.acts.specs.Making.{Making, going, halted, done, and_then, made}
 use Rattle.acts.specs.Standing.{Stands, Keeps}
 use Rattle.acts.specs.declared.act.Act.TheVariants.{Keep}
-use Rattle.acts.specs.declared.doing.Halt.{Halt}
-use Rattle.acts.specs.declared.doing.Halt.TheVariants.{Going, Refused}
 use Rattle.acts.specs.declared.doing.Standing.{Standing}
 use Rattle.mmcif.specs.declared.stages.Stage.{Stage}
 use Rattle.mmcif.specs.declared.stages.Waiting.{Waiting}
-use Rattle.mmcif.specs.declared.stages.Waiting.TheVariants.{Nothing, Row}
 use Rattle.mmcif.specs.Acts.{acts_from}
 
 -- ---- the parts of a stage
 
 -- a refusal ends the text
-abbrev pub onward_to : Halt → ℕ → ℕ → ℕ
-onward_to Going next size = next
-onward_to (Refused why) next size = size
+abbrev pub onward_to : Result (Unit {0}) Refusal → ℕ → ℕ → ℕ
+onward_to (Ok u) next size = next
+onward_to (Err why) next size = size
 
 -- up to the greatest number that there is
 unfoldable pub number_after : ℕ → ℕ
 number_after number = cond (ltb number 18446744073709551615) (suc number) number
 
-abbrev pub chain_in : Waiting → ℕ
-chain_in Nothing = 0
-chain_in (Row line s) = s.chain
+abbrev pub chain_in : Option Waiting → ℕ
+chain_in None = 0
+chain_in (Some row) = row.site.chain
 
-abbrev pub is_waiting : Waiting → Bool
-is_waiting Nothing = false
-is_waiting (Row line s) = true
+abbrev pub is_waiting : Option Waiting → Bool
+is_waiting None = false
+is_waiting (Some row) = true
 
 -- a row of this chain
-abbrev pub is_of : Waiting → ℕ → Bool
-is_of Nothing name = false
-is_of (Row line s) name = eqb s.chain name
+abbrev pub is_of : Option Waiting → ℕ → Bool
+is_of None name = false
+is_of (Some row) name = eqb row.site.chain name
 
--- with which a run goes on, if it is one
-abbrev pub is_own : Bool → Waiting → ℕ → Bool
-is_own true w name = is_of w name
-is_own false w name = false
+-- the chain of the run that begins with it
+abbrev pub run_of : Option Waiting → Option ℕ
+run_of None = None
+run_of (Some row) = Some row.site.chain
+
+-- with which a run goes on, if there is one
+abbrev pub is_own : Option ℕ → Option Waiting → Bool
+is_own (Some name) w = is_of w name
+is_own None w = false
 
 -- where no row waits
 abbrev pub stage_at : ℕ → ℕ → Heads → Standing → Stage
-stage_at at number heads standing = record { at = at; number = number; heads = heads; standing = standing; waiting = Nothing }
+stage_at at number heads standing = record { at = at; number = number; heads = heads; standing = standing; waiting = None }
 
-abbrev pub first_stage : Halt → ℕ → Stage
+-- the same place, with none that waits
+abbrev pub between_rows : Stage → Stage
+between_rows s = stage_at s.at s.number s.heads s.standing
+
+abbrev pub first_stage : Result (Unit {0}) Refusal → ℕ → Stage
 first_stage halt size = stage_at (onward_to halt 0 size) 1 start_heads (record { held = none_held; halt = halt })
 
 -- how many chains were met
@@ -92,16 +100,16 @@ pub record Between (text : List ℕ) (settings : Settings) (room : Room) (target
 -- the row of this line waits
 pub record Before (text : List ℕ) (settings : Settings) (room : Room) (target : Making) (line : ℕ) (site : Site) (s : Stage) (r : Records) : Type 0 where
   pub st : State
-  pub going : s.standing.halt ≡ Going
+  pub going : s.standing.halt ≡ Ok tt
   pub holds : HoldsApart r room s.standing.held st
   pub rows : st.rows < line
   pub numbered : line < s.number
   pub finite : Finite site.occupancy
   pub finish : and_then (done room st (record { line = line; act = Keep site })) (rest text settings room s) ≡ target
 
-abbrev pub ReachedBy : Waiting → List ℕ → Settings → Room → Making → Stage → Records → Type 0
-ReachedBy Nothing text settings room target s r = Between text settings room target s r
-ReachedBy (Row line site) text settings room target s r = Before text settings room target line site s r
+abbrev pub ReachedBy : Option Waiting → List ℕ → Settings → Room → Making → Stage → Records → Type 0
+ReachedBy None text settings room target s r = Between text settings room target s r
+ReachedBy (Some row) text settings room target s r = Before text settings room target row.line row.site s r
 
 abbrev pub Reached : List ℕ → Settings → Room → Making → Stage → Records → Type 0
 Reached text settings room target s r = ReachedBy s.waiting text settings room target s r
@@ -117,9 +125,9 @@ pub record GoesOnTo (text : List ℕ) (settings : Settings) (from to : Stage) : 
   pub reached : Inside text from → (room : Room) (target : Making) (r : Records) → Between text settings room target from r → Reached text settings room target to r
 
 -- the row that waits put in, its chain found at this place; nothing where none waits
-abbrev pub PutBy : Waiting → Room → ℕ → Stage → Standing → Records → Records → Type 0
-PutBy Nothing room place from kept r after = kept ≡ from.standing
-PutBy (Row line site) room place from kept r after = ChainFound (take (met from) r.chains) site.chain place → Keeps r room line from.standing.held site kept after
+abbrev pub PutBy : Option Waiting → Room → ℕ → Stage → Standing → Records → Records → Type 0
+PutBy None room place from kept r after = kept ≡ from.standing
+PutBy (Some row) room place from kept r after = ChainFound (take (met from) r.chains) row.site.chain place → Keeps r room row.line from.standing.held row.site kept after
 
 pub record PutsWaiting (room : Room) (place : ℕ) (from : Stage) (kept : Standing) (r after : Records) : Type 0 where
   pub lengths : SameLengths r after

@@ -6,4 +6,4 @@ mod reading_lines;
 mod stages;
 
 pub use reading_lines::read_lines;
-pub use stages::{Stage, Waiting, chain_in, first_row, take_run, waits};
+pub use stages::{Stage, Waiting, first_row, take_run};

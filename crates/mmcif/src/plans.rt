@@ -7,7 +7,7 @@ ghost use Rattle.mmcif.specs.Plans.{plan_of};
 use acts::Act;
 use line_states::{Does, Heads};
 use refusals::Reason;
-use rows::{Columns, Row, Settings};
+use rows::{Columns, Settings, Site};
 use tokens::LONGEST;
 
 #[derive(Clone, Copy)]
@@ -16,13 +16,13 @@ pub struct Plan {
     pub act: Act,
 }
 
-fn row_act(row: Row) -> Act
+fn row_act(row: Result<Option<Site>, Reason>) -> Act
     ensures { result ≡ row_act row }
 {
     match row {
-        Row::Refused(why) => Act::Refuse(why),
-        Row::Skipped => Act::Skip,
-        Row::Kept(site) => Act::Keep(site),
+        Err(why) => Act::Refuse(why),
+        Ok(None) => Act::Skip,
+        Ok(Some(site)) => Act::Keep(site),
     }
 }
 
@@ -49,8 +49,6 @@ pub(crate) fn plan_of(settings: Settings, heads: Heads, line: &[u8]) -> Plan
     }
     let moved = line_states::read_line(heads, line);
     let heads = moved.heads;
-    let columns = heads.columns;
-    let does = moved.does;
-    let act = act_by(settings, line, columns, does);
+    let act = act_by(settings, line, heads.columns, moved.does);
     Plan { heads, act }
 }

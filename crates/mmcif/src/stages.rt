@@ -1,22 +1,24 @@
 // Where the reading of a text stands between two rows that are kept. Lines are taken without a slice up to the next such row, which waits with its
 // line until it is put in at its chain's place. Rows of one chain come in runs, and a run is taken in one call.
-ghost use Rattle.std.specs.Prelude.{◌≡◌, List, ℕ, length};
-ghost use Rattle.building.specs.Holds.{records_by};
-ghost use Rattle.building.specs.Sites.{with_place};
-ghost use Rattle.mmcif.specs.Stages.{onward_to, number_after, chain_in, is_waiting, is_of, is_own, stage_at, first_stage, GoesOnTo, PutsWaiting, TakesRun, Walks};
+ghost use Rattle.std.specs.Prelude.{◌≡◌, List, ℕ, length, set};
+ghost use Rattle.model.specs.LentNow.{SameAtoms};
+ghost use Rattle.building.specs.Holds.{records_now};
+ghost use Rattle.building.specs.Kinds.{KeepsResidues};
+ghost use Rattle.mmcif.specs.Stages.{onward_to, number_after, chain_in, run_of, is_own, between_rows, first_stage, GoesOnTo, PutsWaiting, TakesRun, Walks};
 
 use crate::plans::plan_of;
-use acts::{Act, Halt, Standing, keep_site, pass_act};
+use acts::{Act, Standing, keep_site, pass_act};
 use building::none_held;
-use line_states::Heads;
-use model::Room;
+use line_states::{Heads, start_heads};
+use model::{AtomsMut, ResiduesMut, Room, no_records};
+use refusals::Refusal;
 use rows::{Settings, Site};
 
 // The row that is kept next, with its line.
 #[derive(Clone, Copy)]
-pub enum Waiting {
-    Nothing,
-    Row(usize, Site),
+pub struct Waiting {
+    pub line: usize,
+    pub site: Site,
 }
 
 // The next line's place and number, the state of the headers, what is held, and the row that waits.
@@ -26,16 +28,16 @@ pub struct Stage {
     pub number: usize,
     pub heads: Heads,
     pub standing: Standing,
-    pub waiting: Waiting,
+    pub waiting: Option<Waiting>,
 }
 
 // Where to read on: a refusal ends the text.
-fn onward(halt: Halt, next: usize, size: usize) -> usize
+fn onward(halt: Result<(), Refusal>, next: usize, size: usize) -> usize
     ensures { result ≡ onward_to halt next size }
 {
     match halt {
-        Halt::Going => next,
-        Halt::Refused(_) => size,
+        Ok(()) => next,
+        Err(_) => size,
     }
 }
 
@@ -43,270 +45,171 @@ fn onward(halt: Halt, next: usize, size: usize) -> usize
 fn number_after(number: usize) -> usize
     ensures { result ≡ number_after number }
 {
-    if number < 18446744073709551615 {
-        return number + 1;
-    }
-    number
+    number.saturating_add(1)
 }
 
-pub fn waits(stage: Stage) -> bool
-    ensures { result ≡ is_waiting stage.waiting }
+// The chain of the run that begins with the row that waits.
+fn run_of(stage: Stage) -> Option<u64>
+    ensures { result ≡ run_of stage.waiting }
 {
-    let waiting = stage.waiting;
-    match waiting {
-        Waiting::Nothing => false,
-        Waiting::Row(_, _) => true,
+    match stage.waiting {
+        None => None,
+        Some(row) => Some(row.site.chain),
     }
 }
 
-// The chain of the row that waits.
-pub fn chain_in(stage: Stage) -> u64
-    ensures { result ≡ chain_in stage.waiting }
+// Whether the run goes on with the row that waits.
+fn is_own(run: Option<u64>, stage: Stage) -> bool
+    ensures { result ≡ is_own run stage.waiting }
 {
-    let waiting = stage.waiting;
-    match waiting {
-        Waiting::Nothing => 0,
-        Waiting::Row(_, site) => site.chain,
+    match (run, stage.waiting) {
+        (Some(chain), Some(row)) => row.site.chain == chain,
+        _ => false,
     }
 }
 
-// Whether a row of this chain waits.
-fn is_of(stage: Stage, name: u64) -> bool
-    ensures { result ≡ is_of stage.waiting name }
+// Up to the next row that is kept, to a refusal, or to the text's end. By places, since where a line ends is known only once it is found.
+fn to_next_row(text: &[u8], settings: Settings, from: Stage) -> Stage
+    ensures { GoesOnTo text.now settings (between_rows from) result }
 {
-    let waiting = stage.waiting;
-    match waiting {
-        Waiting::Nothing => false,
-        Waiting::Row(_, site) => site.chain == name,
-    }
-}
-
-// Whether a run goes on with the row that waits.
-fn is_own(runs: bool, stage: Stage, name: u64) -> bool
-    ensures { result ≡ is_own runs stage.waiting name }
-{
-    if runs {
-        return is_of(stage, name);
-    }
-    false
-}
-
-// Up to the next row that is kept, to a refusal, or to the text's end.
-fn to_next_row(
-    text: &[u8],
-    settings: Settings,
-    from: usize,
-    first: usize,
-    before: Heads,
-    so_far: Standing,
-) -> Stage
-    ensures { GoesOnTo text.now settings (stage_at from first before so_far) result }
-{
-    let mut at = from;
-    let mut number = first;
-    let mut heads = before;
-    let mut standing = so_far;
-    while at < text.len() {
-        let line = lines::line_from(text, at);
-        let end = line.end;
-        let plan = plan_of(settings, heads, &text[at..end]);
-        heads = plan.heads;
-        let act = plan.act;
-        let held = standing.held;
-        if let Act::Keep(site) = act {
+    let mut now = Stage {
+        waiting: None,
+        ..from
+    };
+    while now.at < text.len() {
+        let number = now.number;
+        let line = lines::line_from(text, now.at);
+        let plan = plan_of(settings, now.heads, &text[now.at..line.end]);
+        let standing = pass_act(number, now.standing.held, plan.act);
+        now = Stage {
+            at: onward(standing.halt, line.next, text.len()),
+            number: number_after(number),
+            heads: plan.heads,
+            standing,
+            waiting: None,
+        };
+        if let Act::Keep(site) = plan.act {
             return Stage {
-                at: line.next,
-                number: number_after(number),
-                heads,
-                standing: Standing {
-                    held,
-                    halt: Halt::Going,
-                },
-                waiting: Waiting::Row(number, site),
+                waiting: Some(Waiting { line: number, site }),
+                ..now
             };
         }
-        standing = pass_act(number, held, act);
-        let halt = standing.halt;
-        at = onward(halt, line.next, text.len());
-        number = number_after(number);
     }
-    Stage {
-        at,
-        number,
-        heads,
-        standing,
-        waiting: Waiting::Nothing,
-    }
+    now
 }
 
 // The row that waits is put in where its chain was found. Nothing is done where none waits.
 fn put_waiting(
-    residue_keys: &mut [u64],
-    residue_names: &mut [u64],
-    residue_marks: &mut [u8],
-    atom_keys: &mut [u64],
-    atom_names: &mut [u64],
-    elements: &mut [u8],
-    positions: &mut [[f64; 3]],
-    occupancies: &mut [f64],
+    residues: &mut ResiduesMut<'_>,
+    atoms: &mut AtomsMut<'_>,
     room: Room,
     stage: Stage,
     found: usize,
 ) -> Standing
-    ensures { (chains : List ℕ) →
-        let l = records_by (with_place chains found (chain_in stage.waiting)) residue_keys residue_names residue_marks atom_keys atom_names elements positions occupancies in
-        PutsWaiting room found stage result l.entry l.exit }
+    ensures same_residues { KeepsResidues residues.old residues.new }
+    ensures same_atoms { SameAtoms atoms.old atoms.new }
+    ensures puts { (chains : List ℕ) →
+        PutsWaiting room found stage result (records_now chains residues.old atoms.old) (records_now (set chains found (chain_in stage.waiting)) residues.new atoms.new) }
 {
-    let standing = stage.standing;
-    let row = stage.waiting;
-    match row {
-        Waiting::Nothing => standing,
-        Waiting::Row(line, site) => {
-            let held = standing.held;
-            keep_site(
-                residue_keys,
-                residue_names,
-                residue_marks,
-                atom_keys,
-                atom_names,
-                elements,
-                positions,
-                occupancies,
-                room,
-                line,
-                held,
-                found,
-                site,
-            )
-        }
-    }
+    let Some(row) = stage.waiting else {
+        return stage.standing;
+    };
+    keep_site(
+        residues,
+        atoms,
+        room,
+        row.line,
+        stage.standing.held,
+        found,
+        row.site,
+    )
 }
 
 // The row that waits and all that follow on it in its chain; where none waits, up to the first row. Each step is called from one place alone, so that the compiler builds all of them into
-// this loop: a plan, a site or a stage that comes back from a call costs more than the work on it.
+// this loop: a plan, a site or a stage that comes back from a call costs more than the work on it. Text, settings and room stay side by side, since each step takes but some of them.
 fn walk(
     text: &[u8],
-    residue_keys: &mut [u64],
-    residue_names: &mut [u64],
-    residue_marks: &mut [u8],
-    atom_keys: &mut [u64],
-    atom_names: &mut [u64],
-    elements: &mut [u8],
-    positions: &mut [[f64; 3]],
-    occupancies: &mut [f64],
+    residues: &mut ResiduesMut<'_>,
+    atoms: &mut AtomsMut<'_>,
     settings: Settings,
     room: Room,
     stage: Stage,
     place: usize,
 ) -> Stage
-    ensures { (chains : List ℕ) →
-        let l = records_by (record { entry = chains; exit = chains }) residue_keys residue_names residue_marks atom_keys atom_names elements positions occupancies in
-        Walks text.now settings room place stage result l.entry l.exit }
+    ensures same_residues { KeepsResidues residues.old residues.new }
+    ensures same_atoms { SameAtoms atoms.old atoms.new }
+    ensures walks { (chains : List ℕ) →
+        Walks text.now settings room place stage result (records_now chains residues.old atoms.old) (records_now chains residues.new atoms.new) }
 {
-    let name = chain_in(stage);
-    let runs = waits(stage);
+    let run = run_of(stage);
     let mut now = stage;
     loop {
-        let kept = put_waiting(
-            residue_keys,
-            residue_names,
-            residue_marks,
-            atom_keys,
-            atom_names,
-            elements,
-            positions,
-            occupancies,
-            room,
-            now,
-            place,
-        );
-        let halt = kept.halt;
-        let at = onward(halt, now.at, text.len());
-        let heads = now.heads;
-        now = to_next_row(text, settings, at, now.number, heads, kept);
-        let more = is_own(runs, now, name);
-        if !more {
+        let kept = put_waiting(residues, atoms, room, now, place);
+        let on = Stage {
+            at: onward(kept.halt, now.at, text.len()),
+            standing: kept,
+            ..now
+        };
+        now = to_next_row(text, settings, on);
+        if !is_own(run, now) {
             return now;
         }
     }
 }
 
-// The first row of the text, unless the text was refused before all lines. Nothing is put in before it, so the slices may be as short as can be.
-pub fn first_row(text: &[u8], settings: Settings, halt: Halt) -> Stage
+// The first row of the text, unless the text was refused before all lines. Nothing is put in before it, so the slices are empty.
+pub fn first_row(text: &[u8], settings: Settings, halt: Result<(), Refusal>) -> Stage
     ensures { GoesOnTo text.now settings (first_stage halt (length text.now)) result }
 {
-    let heads = line_states::start_heads();
-    let held = none_held();
-    let at = onward(halt, 0, text.len());
-    let mut residue_keys = [0u64; 1];
-    let mut residue_names = [0u64; 1];
-    let mut residue_marks = [0u8; 1];
-    let mut atom_keys = [0u64; 1];
-    let mut atom_names = [0u64; 1];
-    let mut elements = [0u8; 1];
-    let mut positions = [[0.0; 3]; 1];
-    let mut occupancies = [0.0; 1];
+    let first = Stage {
+        at: onward(halt, 0, text.len()),
+        number: 1,
+        heads: start_heads(),
+        standing: Standing {
+            held: none_held(),
+            halt,
+        },
+        waiting: None,
+    };
+    let mut residues = ResiduesMut {
+        keys: &mut [],
+        names: &mut [],
+        codes: &mut [],
+        categories: &mut [],
+        positions: &mut [],
+    };
+    let mut atoms = AtomsMut {
+        keys: &mut [],
+        names: &mut [],
+        elements: &mut [],
+        positions: &mut [],
+        occupancies: &mut [],
+    };
     walk(
         text,
-        &mut residue_keys,
-        &mut residue_names,
-        &mut residue_marks,
-        &mut atom_keys,
-        &mut atom_names,
-        &mut elements,
-        &mut positions,
-        &mut occupancies,
+        &mut residues,
+        &mut atoms,
         settings,
-        Room {
-            chains: 0,
-            residues: 0,
-            atoms: 0,
-        },
-        Stage {
-            at,
-            number: 1,
-            heads,
-            standing: Standing { held, halt },
-            waiting: Waiting::Nothing,
-        },
+        no_records(),
+        first,
         0,
     )
 }
 
-// The row that waits and all that follow on it in its chain, whose name stands at its place in the chain list already. One lifetime for all the slices: a caller that is proved by
-// hand lends them together.
-pub fn take_run<'t, 'a>(
-    text: &'t [u8],
-    residue_keys: &'a mut [u64],
-    residue_names: &'a mut [u64],
-    residue_marks: &'a mut [u8],
-    atom_keys: &'a mut [u64],
-    atom_names: &'a mut [u64],
-    elements: &'a mut [u8],
-    positions: &'a mut [[f64; 3]],
-    occupancies: &'a mut [f64],
+// The row that waits and all that follow on it in its chain, whose name stands at its place in the chain list already.
+pub fn take_run(
+    text: &[u8],
+    residues: &mut ResiduesMut<'_>,
+    atoms: &mut AtomsMut<'_>,
     settings: Settings,
     room: Room,
     stage: Stage,
     place: usize,
 ) -> Stage
-    ensures { (chains : List ℕ) →
-        let l = records_by (record { entry = chains; exit = chains }) residue_keys residue_names residue_marks atom_keys atom_names elements positions occupancies in
-        TakesRun text.now settings room place stage result l.entry l.exit }
+    ensures same_residues { KeepsResidues residues.old residues.new }
+    ensures same_atoms { SameAtoms atoms.old atoms.new }
+    ensures takes { (chains : List ℕ) →
+        TakesRun text.now settings room place stage result (records_now chains residues.old atoms.old) (records_now chains residues.new atoms.new) }
 {
-    walk(
-        text,
-        residue_keys,
-        residue_names,
-        residue_marks,
-        atom_keys,
-        atom_names,
-        elements,
-        positions,
-        occupancies,
-        settings,
-        room,
-        stage,
-        place,
-    )
+    walk(text, residues, atoms, settings, room, stage, place)
 }

@@ -5,6 +5,7 @@ use mathlib.Core.List.{List, [], ◌∷◌, ◌++◌, Memᴰ}
 use Prim.Native.Nat.{ℕ}
 use lib.Dec.{leb}
 use lib.ListN.{length}
+use Rattle.std.specs.Prelude.{None}
 use Rattle.rows.specs.declared.rules.Site.{Site}
 use Rattle.model.specs.Chains.{chain_place, with_chain}
 use Rattle.model.specs.Fold.{start, model_of}
@@ -12,7 +13,6 @@ use Rattle.model.specs.Keys.{residue_at, atom_at}
 use Rattle.model.specs.Lists.{All}
 use Rattle.model.specs.Map.{find, is_none}
 use Rattle.model.specs.Proper.{Proper}
-use Rattle.model.specs.declared.room.Lack.TheVariants.{Nothing}
 use Rattle.model.specs.declared.room.Room.{Room}
 use Rattle.model.specs.Room.{lacking}
 use Rattle.model.specs.Rules.{same_atom}
@@ -24,7 +24,7 @@ use Rattle.model.proofs.KeysTellApart.{one_atom, key_by_residue, place_by_atom}
 use Rattle.model.proofs.ListLaws.{all_at}
 
 -- ---- the theorem
-pub known_needs_no_room : (room : Room) (l : List Taken) → All Proper (sites l) → (s t : Site) → Memᴰ t (sites l) → same_atom s t ≡ true → lacking room (model_of l) (site s) ≡ Nothing
+pub known_needs_no_room : (room : Room) (l : List Taken) → All Proper (sites l) → (s t : Site) → Memᴰ t (sites l) → same_atom s t ≡ true → lacking room (model_of l) (site s) ≡ None
 unfolding lacking
 known_needs_no_room room l p s t d e =
     let c = (model_of l).chains in

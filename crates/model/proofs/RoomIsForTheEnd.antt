@@ -5,9 +5,8 @@ use mathlib.Core.List.{List, [], ◌∷◌}
 use Prim.Native.Nat.{ℕ}
 use native.Mathlib.Omega.{arith}
 use Rattle.refusals.specs.declared.details.RecordKind.{RecordKind}
+use Rattle.std.specs.Prelude.{Option, None, Some}
 use Rattle.model.specs.Fold.{State, start, step, run, model_of}
-use Rattle.model.specs.declared.room.Lack.{Lack}
-use Rattle.model.specs.declared.room.Lack.TheVariants.{Nothing, Of}
 use Rattle.model.specs.declared.room.Room.{Room}
 use Rattle.model.specs.Room.{Fits, lacking, whole, stopped, onward, read_from, read_within}
 use Rattle.model.specs.Taken.{Taken}
@@ -18,7 +17,7 @@ module _ (room : Room) where
   unfolding run read_from
   read_whole st [] f = refl
   read_whole st (r ∷ l) f =
-      ap (λ (d : Lack). onward st.rows d (read_from room (step st r) l)) (fits_none room st r (fitted_all room (step st r) l f)) ∙ read_whole (step st r) l f
+      ap (λ (d : Option RecordKind). onward st.rows d (read_from room (step st r) l)) (fits_none room st r (fitted_all room (step st r) l f)) ∙ read_whole (step st r) l f
 
   whole_read : (st su : State) (l : List Taken) → Fits room st → read_from room st l ≡ whole su → (su ≡ run st l) × Fits room su
   unfolding run read_from
@@ -28,10 +27,10 @@ module _ (room : Room) where
       apart : (d : RecordKind) → stopped st.rows d ≡ whole su → ⊥
       apart d p = let z : ◌≡◌ {A = ℕ} 0 1 = cc in omega arith
 
-      go : (d : Lack) → lacking room st r ≡ d → onward st.rows d (read_from room (step st r) l) ≡ whole su
+      go : (d : Option RecordKind) → lacking room st r ≡ d → onward st.rows d (read_from room (step st r) l) ≡ whole su
           → (Fits room (step st r) → read_from room (step st r) l ≡ whole su → (su ≡ run (step st r) l) × Fits room su) → (su ≡ run (step st r) l) × Fits room su
-      go Nothing n q later = later (none_fits room st r f n) q
-      go (Of d) n q later = absurd (apart d q)
+      go None n q later = later (none_fits room st r f n) q
+      go (Some d) n q later = absurd (apart d q)
 
   -- ---- the theorems
   pub read_to_the_end : (l : List Taken) → Fits room (model_of l) → read_within room l ≡ whole (model_of l)

@@ -9,13 +9,13 @@ use native.Mathlib.Omega.{arith}
 use lib.Dec.{leb}
 use lib.ListN.{length}
 use borrow.Author.Tests.{leb-false, lt-leb}
+use Rattle.std.specs.Prelude.{Option, None, Some}
+use Rattle.refusals.specs.declared.details.RecordKind.{RecordKind}
 use Rattle.rows.specs.declared.rules.Site.{Site}
 use Rattle.model.specs.Chains.{chain_place, with_chain}
 use Rattle.model.specs.Fold.{State, first, greater, start, step, run}
 use Rattle.model.specs.Keys.{residue_at, atom_at}
 use Rattle.model.specs.Map.{find, put, is_none}
-use Rattle.model.specs.declared.room.Lack.{Lack}
-use Rattle.model.specs.declared.room.Lack.TheVariants.{Nothing, Of}
 use Rattle.model.specs.declared.room.Room.{Room}
 use Rattle.model.specs.Room.{Fits, no_room, first_lack, lacking}
 use Rattle.model.specs.Taken.{Taken, skipped, site}
@@ -35,11 +35,11 @@ no_fewer : (room many after : ℕ) (new : Bool) → after ≡ cond new (suc many
 no_fewer room many after true e = omega arith
 no_fewer room many after false e = omega arith
 
-abbrev is_nothing : Lack → Bool
-is_nothing Nothing = true
-is_nothing (Of kind) = false
+abbrev is_nothing : Option RecordKind → Bool
+is_nothing None = true
+is_nothing (Some kind) = false
 
-pub nothing_lacks : (chain residue atom : Bool) → first_lack chain residue atom ≡ Nothing → (chain ≡ false) × (residue ≡ false) × (atom ≡ false)
+pub nothing_lacks : (chain residue atom : Bool) → first_lack chain residue atom ≡ None → (chain ≡ false) × (residue ≡ false) × (atom ≡ false)
 nothing_lacks true residue atom e = absurd (false≢true (ap is_nothing e))
 nothing_lacks false true atom e = absurd (false≢true (ap is_nothing e))
 nothing_lacks false false true e = absurd (false≢true (ap is_nothing e))
@@ -73,11 +73,11 @@ module _ (room : Room) (st : State) (s : Site) where
     h _ _ _ new_atom (length_put (atom_at c s) (greater s) st.atoms),
   )
 
-  fits_site : Fits room (step st (site s)) → lacking room st (site s) ≡ Nothing
+  fits_site : Fits room (step st (site s)) → lacking room st (site s) ≡ None
   unfolding step lacking
   fits_site f = let h = sizes (λ room many after new. after ≤ room → no_room new room many ≡ false) enough in rw (h.0 f.chains, h.1 f.residues, h.2 f.atoms)
 
-  site_fits : Fits room st → lacking room st (site s) ≡ Nothing → Fits room (step st (site s))
+  site_fits : Fits room st → lacking room st (site s) ≡ None → Fits room (step st (site s))
   unfolding step lacking
   site_fits f e =
       let n = nothing_lacks (no_room new_chain room.chains (length st.chains)) (no_room new_residue room.residues (length st.residues)) (no_room new_atom room.atoms (length st.atoms)) e in
@@ -92,12 +92,12 @@ module _ (room : Room) (st : State) (s : Site) where
 
 module _ (room : Room) where
   -- ---- a row lacks nothing exactly where the state after it fits, and no row makes anything fewer
-  pub fits_none : (st : State) (r : Taken) → Fits room (step st r) → lacking room st r ≡ Nothing
+  pub fits_none : (st : State) (r : Taken) → Fits room (step st r) → lacking room st r ≡ None
   unfolding lacking
   fits_none st skipped f = refl
   fits_none st (site s) f = fits_site room st s f
 
-  pub none_fits : (st : State) (r : Taken) → Fits room st → lacking room st r ≡ Nothing → Fits room (step st r)
+  pub none_fits : (st : State) (r : Taken) → Fits room st → lacking room st r ≡ None → Fits room (step st r)
   unfolding step
   none_fits st skipped f e = record { chains = f.chains; residues = f.residues; atoms = f.atoms }
   none_fits st (site s) f e = site_fits room st s f e

@@ -9,7 +9,7 @@ use borrow.Author.Tests.{eqb-true}
 use Rattle.names.specs.Packing.{packed_in, unpacked_in}
 use Rattle.names.specs.Table.{Row, canonical, named, resolve_of}
 use Rattle.names.specs.declared.table.Resolved.{Resolved}
-use Rattle.names.specs.declared.table.Resolved.TheVariants.{Standard, Unresolved}
+use Rattle.std.specs.Prelude.{Option, None, Some}
 use Rattle.names.proofs.ResolvingTwice.{leads_to_canonical, twice}
 use Rattle.model.specs.Classes.{class_by, class_of}
 use Rattle.model.specs.Finished.{positioned, all_positioned}
@@ -24,9 +24,9 @@ pub class_again : (name : ℕ) (lone : Bool) → class_of (class_of name lone).n
 unfolding class_of
 class_again name lone = go (resolve_of name) refl
   where
-    go : (r : Resolved) → resolve_of name ≡ r → class_by (resolve_of (class_by r name lone).name) (class_by r name lone).name lone ≡ class_by r name lone
-    go (Standard target residue) e = ap (λ (r : Resolved). class_by r target lone) (twice name target residue e)
-    go Unresolved e = ap (λ (r : Resolved). class_by r name lone) e
+    go : (r : Option Resolved) → resolve_of name ≡ r → class_by (resolve_of (class_by r name lone).name) (class_by r name lone).name lone ≡ class_by r name lone
+    go (Some to) e = ap (λ (r : Option Resolved). class_by r to.name lone) (twice name to.name to.residue e)
+    go None e = ap (λ (r : Option Resolved). class_by r name lone) e
 
 -- the canonical names are names
 canonical_names : every (λ r. is_name r.name) canonical ≡ true
@@ -46,9 +46,9 @@ pub class_is_named : (name : ℕ) (lone : Bool) → is_name name ≡ true → is
 unfolding class_of
 class_is_named name lone h = go (resolve_of name) refl
   where
-    go : (r : Resolved) → resolve_of name ≡ r → is_name (class_by r name lone).name ≡ true
-    go (Standard target residue) e = named_passes is_name target canonical canonical_names (leads_to_canonical name target residue e)
-    go Unresolved e = h
+    go : (r : Option Resolved) → resolve_of name ≡ r → is_name (class_by r name lone).name ≡ true
+    go (Some to) e = named_passes is_name to.name canonical canonical_names (leads_to_canonical name to.name to.residue e)
+    go None e = h
 
 -- ---- positions
 module _ (residues : List ResidueRecord) (r : ResidueRecord) where

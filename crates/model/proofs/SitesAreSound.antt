@@ -10,9 +10,9 @@ use lib.Dec.{eqb, leb, ltb}
 use lib.Ieee.{Float}
 use lib.ListN.{length}
 use borrow.Author.Tests.{eqb-true, leb-true, lt-ltb, ne_eqb}
+use Rattle.std.specs.Prelude.{Ok, Some}
 use Rattle.ascii.specs.Bytes.{bytes, first, is_text_byte}
 use Rattle.ascii.specs.Words.{same_bytes}
-use Rattle.numbers.specs.declared.reading.Number.TheVariants.{Value}
 use Rattle.numbers.specs.Rounding.{printable}
 use Rattle.numbers.proofs.ValueIsPrintable.{value_is_printable}
 use Rattle.tokens.specs.Tokens.{token_at}
@@ -24,8 +24,6 @@ use Rattle.names.specs.Packing.{IsName, packed_in, packed, unpacked_in, unpacked
 use Rattle.names.proofs.ElementsAtMost118.{elements_at_most_118}
 use Rattle.names.proofs.PackingIsOneToOne.{Letters, packed_fits, unpacked_packed, one_to_one}
 use Rattle.rows.specs.declared.columns.Columns.{Columns}
-use Rattle.rows.specs.declared.fields.Measure.TheVariants.{Given}
-use Rattle.rows.specs.declared.rules.Row.TheVariants.{Kept}
 use Rattle.rows.specs.declared.rules.Site.{Site}
 use Rattle.rows.specs.Columns.{is_absent}
 use Rattle.rows.specs.Columns as columns
@@ -135,11 +133,11 @@ element_at_lem line column = go (is_absent column)
     go true = omega arith
     go false = elements_at_most_118 (token_at line column)
 
-near_of : (token : List ℕ) (v : Float) → measure_of token ≡ Given (Value v) → printable v ≡ true
-near_of token v e = value_is_printable token v (given_number token (Value v) e)
+near_of : (token : List ℕ) (v : Float) → measure_of token ≡ Some (Ok v) → printable v ≡ true
+near_of token v e = value_is_printable token v (given_number token (Ok v) e)
 
 -- ---- the theorem
-pub sites_are_sound : (settings : Settings) (columns : Columns) (line : List ℕ) (s : Site) → every is_text_byte line ≡ true → row_of settings (fields_of columns line) ≡ Kept s → Sound s
+pub sites_are_sound : (settings : Settings) (columns : Columns) (line : List ℕ) (s : Site) → every is_text_byte line ≡ true → row_of settings (fields_of columns line) ≡ Ok (Some s) → Sound s
 unfolding fields_of
 sites_are_sound settings c line s h e =
     let k = kept_only settings (fields_of c line) s e in

@@ -5,9 +5,8 @@ use Prim.Native.Nat.{ℕ, suc, ◌+◌}
 use native.Mathlib.Omega.{arith}
 use lib.ListN.{length}
 use Rattle.refusals.specs.declared.details.RecordKind.{RecordKind}
+use Rattle.std.specs.Prelude.{Option, None, Some}
 use Rattle.model.specs.Fold.{State, start, step, run}
-use Rattle.model.specs.declared.room.Lack.{Lack}
-use Rattle.model.specs.declared.room.Lack.TheVariants.{Nothing, Of}
 use Rattle.model.specs.declared.room.Room.{Room}
 use Rattle.model.specs.Room.{Fits, lacking, whole, stopped, onward, read_from, read_within, StopsAt}
 use Rattle.model.specs.Taken.{Taken, skipped, site}
@@ -19,12 +18,12 @@ module _ (room : Room) where
   one_row st skipped = refl
   one_row st (site s) = refl
 
-  stop_at : (st : State) (p : List Taken) (r : Taken) (q : List Taken) (d : RecordKind) → Fits room (run st p) → lacking room (run st p) r ≡ Of d
+  stop_at : (st : State) (p : List Taken) (r : Taken) (q : List Taken) (d : RecordKind) → Fits room (run st p) → lacking room (run st p) r ≡ Some d
       → read_from room st (p ++ r ∷ q) ≡ stopped (st.rows + length p) d
   unfolding run read_from
-  stop_at st [] r q d f e = ap (λ (n : Lack). onward st.rows n (read_from room (step st r) q)) e ∙ ap (λ (i : ℕ). stopped i d) (omega arith)
+  stop_at st [] r q d f e = ap (λ (n : Option RecordKind). onward st.rows n (read_from room (step st r) q)) e ∙ ap (λ (i : ℕ). stopped i d) (omega arith)
   stop_at st (x ∷ p) r q d f e =
-      ap (λ (n : Lack). onward st.rows n (read_from room (step st x) (p ++ r ∷ q))) (fits_none room st x (fitted_all room (step st x) p f))
+      ap (λ (n : Option RecordKind). onward st.rows n (read_from room (step st x) (p ++ r ∷ q))) (fits_none room st x (fitted_all room (step st x) p f))
       ∙ stop_at (step st x) p r q d f e
       ∙ ap (λ (i : ℕ). stopped i d) (omega (arith, one_row st x))
 
@@ -32,7 +31,7 @@ module _ (room : Room) where
   abbrev Cut : State → List Taken → ℕ → RecordKind → Type 0
   Cut st l i d =
       (p : List Taken) × (r : Taken) × (q : List Taken)
-      × (l ≡ p ++ r ∷ q) × (i ≡ st.rows + length p) × Fits room (run st p) × (lacking room (run st p) r ≡ Of d)
+      × (l ≡ p ++ r ∷ q) × (i ≡ st.rows + length p) × Fits room (run st p) × (lacking room (run st p) r ≡ Some d)
 
   cut_at : (st : State) (l : List Taken) (i : ℕ) (d : RecordKind) → Fits room st → read_from room st l ≡ stopped i d → Cut st l i d
   unfolding run read_from
@@ -42,15 +41,15 @@ module _ (room : Room) where
       apart p = let z : ◌≡◌ {A = ℕ} 0 1 = cc in omega arith
   cut_at st (r ∷ l) i d f e = go (lacking room st r) refl e (cut_at (step st r) l i d)
     where
-      go : (n : Lack) → lacking room st r ≡ n → onward st.rows n (read_from room (step st r) l) ≡ stopped i d
+      go : (n : Option RecordKind) → lacking room st r ≡ n → onward st.rows n (read_from room (step st r) l) ≡ stopped i d
           → (Fits room (step st r) → read_from room (step st r) l ≡ stopped i d → Cut (step st r) l i d) → Cut st (r ∷ l) i d
-      go Nothing n q later =
+      go None n q later =
           let w = later (none_fits room st r f n) q in
           (r ∷ w.0, w.1, w.2, ap (λ (m : List Taken). r ∷ m) w.3, w.4 ∙ omega (arith, one_row st r), w.5, w.6)
-      go (Of n) m q later =
+      go (Some n) m q later =
           let i-is : st.rows ≡ i = cc in
           let d-is : n ≡ d = cc in
-          ([], r, l, refl, omega arith, f, m ∙ ap Of d-is)
+          ([], r, l, refl, omega arith, f, m ∙ ap Some d-is)
 
   -- ---- the theorems
   pub stops_at_first : (l : List Taken) (i : ℕ) (d : RecordKind) → read_within room l ≡ stopped i d → StopsAt room l i d

@@ -1,12 +1,11 @@
 -- What a residue is by its name. Resolved: Standard. Else not HETATM: refused. Else one distinct atom: Ion; more: Hetero.
-use Rattle.std.specs.Prelude.{Bool, true, false, not, ◌&&◌, cond, List, ℕ, eqb, length}
+use Rattle.std.specs.Prelude.{Bool, true, false, not, ◌&&◌, cond, List, ℕ, eqb, length, Option, None, Some}
 use Rattle.names.specs.Categories.{category_code}
 use Rattle.names.specs.Residues.{residue_code}
 use Rattle.names.specs.Table.{resolve_of}
 use Rattle.names.specs.declared.residues.ResidueCategory.{ResidueCategory}
 use Rattle.names.specs.declared.residues.ResidueCategory.TheVariants.{Hetero, Ion}
 use Rattle.names.specs.declared.table.Resolved.{Resolved}
-use Rattle.names.specs.declared.table.Resolved.TheVariants.{Standard, Unresolved}
 use Rattle.model.specs.declared.classes.Class.{Class}
 use Rattle.model.specs.Fold.{Residue}
 use Rattle.model.specs.Lists.{filter}
@@ -21,16 +20,16 @@ abbrev pub other_category : Bool → ResidueCategory
 other_category lone = cond lone Ion Hetero
 
 -- a resolved name is taken, with its standard code; another one stays, without a code
-abbrev pub class_by : Resolved → ℕ → Bool → Class
-class_by (Standard target residue) name lone = record { name = target; code = residue_code residue; category = category_code ResidueCategory.Standard }
-class_by Unresolved name lone = record { name = name; code = 0; category = category_code (other_category lone) }
+abbrev pub class_by : Option Resolved → ℕ → Bool → Class
+class_by (Some to) name lone = record { name = to.name; code = residue_code to.residue; category = category_code ResidueCategory.Standard }
+class_by None name lone = record { name = name; code = 0; category = category_code (other_category lone) }
 
 unfoldable pub class_of : ℕ → Bool → Class
 class_of name lone = class_by (resolve_of name) name lone
 
-abbrev pub is_resolved : Resolved → Bool
-is_resolved (Standard target residue) = true
-is_resolved Unresolved = false
+abbrev pub is_resolved : Option Resolved → Bool
+is_resolved (Some to) = true
+is_resolved None = false
 
 -- neither resolved nor HETATM
 unfoldable pub is_unknown : Residue → Bool

@@ -1,10 +1,10 @@
 -- The lent slices, one to a field, and the model in them: chains, residues and atoms from the front, zeros past the counts.
 use Rattle.std.specs.Prelude.{List, [], ◌∷◌, ◌++◌, map, ℕ, zero, suc, ◌-◌, min, Float, length, get_or, take, replicate}
-use Rattle.std.specs.Borrow.{MutBor}
 use denote.Triple.Both.{Both}
 use Rattle.rows.specs.declared.rules.Point3.{Point3}
 use Rattle.field_slices.specs.Clearing.{zero_float, zero_point}
-use Rattle.field_slices.specs.Slice.{Slice, held}
+use Rattle.field_slices.specs.Slice.{Slice}
+use Rattle.model.specs.declared.records.Records.{Records}
 use Rattle.model.specs.declared.room.Room.{Room}
 use Rattle.model.specs.Records.{ResidueRecord, AtomRecord, Model}
 
@@ -45,13 +45,9 @@ lent_by chains residue_keys residue_names residue_codes residue_categories resid
   exit = lent_of chains.exit residue_keys.exit.now residue_names.exit.now residue_codes.exit.now residue_categories.exit.now residue_positions.exit.now atom_keys.exit.now atom_names.exit.now elements.exit.now positions.exit.now occupancies.exit.now;
 }
 
-abbrev pub lent : Slice ℕ → Slice ℕ → Slice ℕ → Slice ℕ → Slice ℕ → Slice ℕ → Slice ℕ → Slice ℕ → Slice ℕ → Slice (List Float) → Slice Float → Both Lent Lent
-lent chains = lent_by (held chains)
-
--- as they are passed
-abbrev pub passed : MutBor (List ℕ) → MutBor (List ℕ) → MutBor (List ℕ) → MutBor (List ℕ) → MutBor (List ℕ) → MutBor (List ℕ) → MutBor (List ℕ) → MutBor (List ℕ) → MutBor (List ℕ) → MutBor (List (List Float)) → MutBor (List Float) → Lent
-passed chains residue_keys residue_names residue_codes residue_categories residue_positions atom_keys atom_names elements positions occupancies =
-    lent_of chains.now residue_keys.now residue_names.now residue_codes.now residue_categories.now residue_positions.now atom_keys.now atom_names.now elements.now positions.now occupancies.now
+-- of records that are passed by value
+abbrev pub lent_in : Records → Lent
+lent_in r = lent_of r.chains.now r.residue_keys.now r.residue_names.now r.residue_codes.now r.residue_categories.now r.residue_positions.now r.atom_keys.now r.atom_names.now r.elements.now r.positions.now r.occupancies.now
 
 -- ---- the room in them
 

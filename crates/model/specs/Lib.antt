@@ -5,6 +5,7 @@ pub mod Finished
 pub mod Fold
 pub mod Keys
 pub mod Lent
+pub mod LentNow
 pub mod Lists
 pub mod Map
 pub mod Proper

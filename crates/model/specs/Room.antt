@@ -1,9 +1,7 @@
 -- Step 8 of a row: room for at most so many chains, residues and atoms. Only what is new needs room, and reading stops at the first row that has none.
-use Rattle.std.specs.Prelude.{◌≡◌, Bool, ◌&&◌, cond, List, [], ◌∷◌, ◌++◌, ℕ, ◌≤◌, leb, length}
+use Rattle.std.specs.Prelude.{◌≡◌, Bool, ◌&&◌, cond, List, [], ◌∷◌, ◌++◌, ℕ, ◌≤◌, leb, length, Option, None, Some}
 use Rattle.refusals.specs.declared.details.RecordKind.{RecordKind}
 use Rattle.refusals.specs.declared.details.RecordKind.TheVariants as kind
-use Rattle.model.specs.declared.room.Lack.{Lack}
-use Rattle.model.specs.declared.room.Lack.TheVariants.{Nothing, Of}
 use Rattle.model.specs.declared.room.Room.{Room}
 use Rattle.model.specs.Chains.{chain_place, with_chain}
 use Rattle.model.specs.Fold.{State, start, step, model_of}
@@ -22,11 +20,11 @@ abbrev pub no_room : Bool → ℕ → ℕ → Bool
 no_room new room many = new && leb room many
 
 -- what a row lacks room for: its chain, then its residue, then its atom
-abbrev pub first_lack : Bool → Bool → Bool → Lack
-first_lack chain residue atom = cond chain (Of kind.Chain) (cond residue (Of kind.Residue) (cond atom (Of kind.Atom) Nothing))
+abbrev pub first_lack : Bool → Bool → Bool → Option RecordKind
+first_lack chain residue atom = cond chain (Some kind.Chain) (cond residue (Some kind.Residue) (cond atom (Some kind.Atom) None))
 
-unfoldable pub lacking : Room → State → Taken → Lack
-lacking room st skipped = Nothing
+unfoldable pub lacking : Room → State → Taken → Option RecordKind
+lacking room st skipped = None
 lacking room st (site s) =
     let chains = with_chain s.chain st.chains in
     first_lack (no_room (leb (length st.chains) (chain_place s.chain st.chains)) room.chains (length st.chains))
@@ -39,9 +37,9 @@ pub data Reading : Type 0 where
   stopped : ℕ → RecordKind → Reading
 
 -- past a row: what it lacks, and the reading of the others
-abbrev pub onward : ℕ → Lack → Reading → Reading
-onward before Nothing others = others
-onward before (Of lack) others = stopped before lack
+abbrev pub onward : ℕ → Option RecordKind → Reading → Reading
+onward before None others = others
+onward before (Some lack) others = stopped before lack
 
 unfoldable pub read_from : Room → State → List Taken → Reading
 read_from room st [] = whole st
@@ -58,4 +56,4 @@ pub record StopsAt (room : Room) (l : List Taken) (i : ℕ) (lack : RecordKind) 
   pub rows : l ≡ before ++ row ∷ after
   pub place : i ≡ length before
   pub fits : Fits room (model_of before)
-  pub lacks : lacking room (model_of before) row ≡ Of lack
+  pub lacks : lacking room (model_of before) row ≡ Some lack

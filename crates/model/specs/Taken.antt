@@ -1,18 +1,18 @@
 -- What a row gives that is not refused: it is skipped, or says something of one atom.
-use Rattle.std.specs.Prelude.{List, [], ◌∷◌, ℕ, suc}
+use Rattle.std.specs.Prelude.{List, [], ◌∷◌, ℕ, suc, Result, Ok, Err, None, Some}
+use Rattle.std.specs.Prelude as prelude
+use Rattle.refusals.specs.declared.reasons.Reason.{Reason}
 use Rattle.std.proofs.Math.Option.{Option, none, some}
-use Rattle.rows.specs.declared.rules.Row.{Row}
-use Rattle.rows.specs.declared.rules.Row.TheVariants.{Refused, Skipped, Kept}
 use Rattle.rows.specs.declared.rules.Site.{Site}
 
 pub data Taken : Type 0 where
   skipped : Taken
   site : Site → Taken
 
-abbrev pub taken_of : Row → Option Taken
-taken_of (Refused why) = none
-taken_of Skipped = some skipped
-taken_of (Kept s) = some (site s)
+abbrev pub taken_of : Result (prelude.Option Site) Reason → Option Taken
+taken_of (Err why) = none
+taken_of (Ok None) = some skipped
+taken_of (Ok (Some s)) = some (site s)
 
 -- the unskipped rows
 unfoldable pub sites : List Taken → List Site

@@ -7,7 +7,7 @@ use names::{ResidueCategory, Resolved};
 #[derive(Clone, Copy)]
 pub struct Class {
     pub name: u64,
-    // 0 where it is no standard residue.
+    // The numbers of the standard residue, 0 where it is none, and of the category, as C's slices have them.
     pub code: u8,
     pub category: u8,
 }
@@ -22,20 +22,17 @@ fn other_category(lone: bool) -> ResidueCategory
     }
 }
 
-fn class_by(resolved: Resolved, name: u64, lone: bool) -> Class
+fn class_by(resolved: Option<Resolved>, name: u64, lone: bool) -> Class
     ensures { result ≡ class_by resolved name lone }
 {
     match resolved {
-        Resolved::Standard {
-            name: target,
-            residue,
-        } => Class {
-            name: target,
-            code: residue.code(),
+        Some(to) => Class {
+            name: to.name,
+            code: to.residue.code(),
             category: ResidueCategory::Standard.code(),
         },
-        Resolved::Unresolved => Class {
-            name: name,
+        None => Class {
+            name,
             code: 0,
             category: other_category(lone).code(),
         },

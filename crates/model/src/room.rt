@@ -1,22 +1,19 @@
 // The room for chains, residues and atoms: the sizes of document 01, and no more than the shortest slice has.
-ghost use Rattle.std.specs.Prelude.{List, ◌≡◌, ℕ, min, length};
-ghost use Rattle.model.specs.Lent.{lent_of, room_by, room_of, no_records};
+ghost use Rattle.std.specs.Prelude.{◌≡◌, min};
+ghost use Rattle.model.specs.Lent.{room_by, no_records};
 
-use field_slices::smaller;
-use refusals::RecordKind;
+// The sizes: so many of each at most.
+const CHAINS: usize = 4096;
+
+const RESIDUES: usize = 65536;
+
+const ATOMS: usize = 1048576;
 
 #[derive(Clone, Copy)]
 pub struct Room {
     pub chains: usize,
     pub residues: usize,
     pub atoms: usize,
-}
-
-// What a row lacks room for.
-#[derive(Clone, Copy)]
-pub enum Lack {
-    Nothing,
-    Of(RecordKind),
 }
 
 pub fn no_records() -> Room
@@ -32,11 +29,11 @@ pub fn no_records() -> Room
 fn smallest(a: usize, b: usize, c: usize, d: usize, e: usize) -> usize
     ensures { result ≡ min a (min b (min c (min d e))) }
 {
-    smaller(a, smaller(b, smaller(c, smaller(d, e))))
+    a.min(b.min(c.min(d.min(e))))
 }
 
-// By the lengths of the slices.
-pub fn room_by(
+// By the lengths of the slices: each is lent by itself, so no struct has them.
+pub(crate) fn room_by(
     chains: usize,
     residue_keys: usize,
     residue_names: usize,
@@ -60,40 +57,8 @@ pub fn room_by(
     );
     let atoms = smallest(atom_keys, atom_names, elements, positions, occupancies);
     Room {
-        chains: smaller(4096, chains),
-        residues: smaller(65536, residues),
-        atoms: smaller(1048576, atoms),
+        chains: CHAINS.min(chains),
+        residues: RESIDUES.min(residues),
+        atoms: ATOMS.min(atoms),
     }
-}
-
-pub fn room_of(
-    chains: usize,
-    residue_keys: &[u64],
-    residue_names: &[u64],
-    residue_codes: &[u8],
-    residue_categories: &[u8],
-    residue_positions: &[u8],
-    atom_keys: &[u64],
-    atom_names: &[u64],
-    elements: &[u8],
-    positions: &[[f64; 3]],
-    occupancies: &[f64],
-) -> Room
-    ensures { (names : List ℕ) → length names ≡ chains →
-        let l = lent_of names residue_keys.now residue_names.now residue_codes.now residue_categories.now residue_positions.now atom_keys.now atom_names.now elements.now positions.now occupancies.now in
-        result ≡ room_of l }
-{
-    room_by(
-        chains,
-        residue_keys.len(),
-        residue_names.len(),
-        residue_codes.len(),
-        residue_categories.len(),
-        residue_positions.len(),
-        atom_keys.len(),
-        atom_names.len(),
-        elements.len(),
-        positions.len(),
-        occupancies.len(),
-    )
 }

@@ -1,11 +1,8 @@
 // A record taken out of the lent slices by value; zero in every field where there is none.
 ghost use Rattle.std.specs.Prelude.{◌≡◌};
-ghost use Rattle.model.specs.Lent.{point_of, residue_from, atom_from};
-ghost use Rattle.model.specs.TakenOut.{signed, residue_out, atom_out};
+ghost use Rattle.model.specs.Lent.{point_of};
+ghost use Rattle.model.specs.TakenOut.{signed};
 
-use crate::keys::{chain_part, code_part, sequence_part};
-use ascii::byte_at;
-use field_slices::{f64_at, point_at, u64_at};
 use rows::Point3;
 
 #[derive(Clone, Copy)]
@@ -33,59 +30,18 @@ pub struct Atom {
 }
 
 // A sequence number without its bias.
-fn signed(sequence: u32) -> i32
+pub(crate) fn signed(sequence: u32) -> i32
     ensures { result ≡ signed sequence }
 {
     (sequence as i64 - 2147483648) as i32
 }
 
-fn point_of(coordinates: [f64; 3]) -> Point3
+pub(crate) fn point_of(coordinates: [f64; 3]) -> Point3
     ensures { result ≡ point_of coordinates }
 {
     Point3 {
         x: coordinates[0],
         y: coordinates[1],
         z: coordinates[2],
-    }
-}
-
-pub fn residue_at(
-    keys: &[u64],
-    names: &[u64],
-    codes: &[u8],
-    categories: &[u8],
-    positions: &[u8],
-    i: usize,
-) -> Residue
-    ensures { result ≡ residue_out (residue_from keys.now names.now codes.now categories.now positions.now i) }
-{
-    let key = u64_at(keys, i);
-    Residue {
-        chain: chain_part(key),
-        sequence: signed(sequence_part(key)),
-        insertion_code: code_part(key),
-        name: u64_at(names, i),
-        code: byte_at(codes, i),
-        category: byte_at(categories, i),
-        position: byte_at(positions, i),
-    }
-}
-
-pub fn atom_at(
-    keys: &[u64],
-    names: &[u64],
-    elements: &[u8],
-    positions: &[[f64; 3]],
-    occupancies: &[f64],
-    i: usize,
-) -> Atom
-    ensures { result ≡ atom_out (atom_from keys.now names.now elements.now positions.now occupancies.now i) }
-{
-    Atom {
-        key: u64_at(keys, i),
-        name: u64_at(names, i),
-        element: byte_at(elements, i),
-        position: point_of(point_at(positions, i)),
-        occupancy: f64_at(occupancies, i),
     }
 }

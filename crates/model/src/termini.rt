@@ -11,24 +11,11 @@ fn position_by(kind: Polymer, first: bool, last: bool) -> ResiduePosition
 {
     match kind {
         Polymer::Neither => ResiduePosition::None,
-        Polymer::Protein => {
-            if first {
-                return ResiduePosition::NTerminal;
-            }
-            if last {
-                return ResiduePosition::CTerminal;
-            }
-            ResiduePosition::Internal
-        }
-        Polymer::Nucleic => {
-            if first {
-                return ResiduePosition::FivePrime;
-            }
-            if last {
-                return ResiduePosition::ThreePrime;
-            }
-            ResiduePosition::Internal
-        }
+        Polymer::Protein if first => ResiduePosition::NTerminal,
+        Polymer::Protein if last => ResiduePosition::CTerminal,
+        Polymer::Nucleic if first => ResiduePosition::FivePrime,
+        Polymer::Nucleic if last => ResiduePosition::ThreePrime,
+        Polymer::Protein | Polymer::Nucleic => ResiduePosition::Internal,
     }
 }
 
@@ -43,8 +30,7 @@ fn of_either(kind: Polymer) -> bool
     ensures { result ≡ of_either kind }
 {
     match kind {
-        Polymer::Protein => true,
-        Polymer::Nucleic => true,
+        Polymer::Protein | Polymer::Nucleic => true,
         Polymer::Neither => false,
     }
 }

@@ -2,19 +2,25 @@
 use mathlib.Core.Path.{◌≡◌, refl}
 use Prim.Native.Nat.{ℕ}
 use native.Mathlib.Omega.{arith}
+use Rattle.std.specs.Prelude.{Option, Some, None}
 use Rattle.names.specs.declared.residues.StandardResidue.{StandardResidue}
 use Rattle.names.specs.declared.residues.StandardResidue.TheVariants.{ALA, ARG, ASN, ASP, CYS, GLN, GLU, GLY, HIS, ILE, LEU, LYS, MET, PHE, PRO, SER, THR, TRP, TYR, VAL, A, C, G, U, I, DA, DC, DG, DT, DI, HOH}
-use Rattle.names.specs.declared.residues.FoundResidue.{FoundResidue}
 use Rattle.names.specs.declared.residues.ResidueCategory.{ResidueCategory}
-use Rattle.names.specs.declared.residues.FoundCategory.{FoundCategory}
 use Rattle.names.specs.declared.residues.ResiduePosition.{ResiduePosition}
-use Rattle.names.specs.declared.residues.FoundPosition.{FoundPosition}
 use Rattle.names.specs.Residues.{standard_residues, residues, residue_code, residue_of}
 use Rattle.names.specs.Categories.{residue_categories, categories, category_code, category_of}
 use Rattle.names.specs.Positions.{residue_positions, positions, position_code, position_of}
 use Rattle.names.proofs.TablesByTest.{numbered}
 
-pub residue_again : (r : StandardResidue) → residue_of (residue_code r) ≡ FoundResidue.Residue r
+-- the number of what a number finds; 0 where it finds nothing
+abbrev code_in : {A : Type 0} → (A → ℕ) → Option A → ℕ
+code_in code (Some a) = code a
+code_in code None = 0
+
+some_not : {A : Type 0} {a : A} → Some a ≡ None → ⊥
+some_not e = let z : ◌≡◌ {A = ℕ} 0 1 = cc in omega arith
+
+pub residue_again : (r : StandardResidue) → residue_of (residue_code r) ≡ Some r
 unfolding standard_residues residues residue_code residue_of
 residue_again ALA = refl
 residue_again ARG = refl
@@ -48,35 +54,21 @@ residue_again DT = refl
 residue_again DI = refl
 residue_again HOH = refl
 
-pub residue_number : (n : ℕ) (r : StandardResidue) → residue_of n ≡ FoundResidue.Residue r → residue_code r ≡ n
+pub residue_number : (n : ℕ) (r : StandardResidue) → residue_of n ≡ Some r → residue_code r ≡ n
 unfolding standard_residues residues residue_code residue_of
-residue_number n r e = numbered number residues FoundResidue.None (FoundResidue.Residue r) refl other n e
-  where
-    number : FoundResidue → ℕ
-    number (FoundResidue.Residue r) = residue_code r
-    number FoundResidue.None = 0
+residue_number n r e = numbered (code_in residue_code) residues None (Some r) refl some_not n e
 
-    other : FoundResidue.Residue r ≡ FoundResidue.None → ⊥
-    other e = let z : ◌≡◌ {A = ℕ} 0 1 = cc in omega arith
-
-pub category_again : (g : ResidueCategory) → category_of (category_code g) ≡ FoundCategory.Category g
+pub category_again : (g : ResidueCategory) → category_of (category_code g) ≡ Some g
 unfolding residue_categories categories category_of
 category_again ResidueCategory.Standard = refl
 category_again ResidueCategory.Hetero = refl
 category_again ResidueCategory.Ion = refl
 
-pub category_number : (n : ℕ) (g : ResidueCategory) → category_of n ≡ FoundCategory.Category g → category_code g ≡ n
+pub category_number : (n : ℕ) (g : ResidueCategory) → category_of n ≡ Some g → category_code g ≡ n
 unfolding residue_categories categories category_of
-category_number n g e = numbered number categories FoundCategory.None (FoundCategory.Category g) refl other n e
-  where
-    number : FoundCategory → ℕ
-    number (FoundCategory.Category g) = category_code g
-    number FoundCategory.None = 0
+category_number n g e = numbered (code_in category_code) categories None (Some g) refl some_not n e
 
-    other : FoundCategory.Category g ≡ FoundCategory.None → ⊥
-    other e = let z : ◌≡◌ {A = ℕ} 0 1 = cc in omega arith
-
-pub position_again : (p : ResiduePosition) → position_of (position_code p) ≡ FoundPosition.Position p
+pub position_again : (p : ResiduePosition) → position_of (position_code p) ≡ Some p
 unfolding residue_positions positions position_of
 position_again ResiduePosition.None = refl
 position_again ResiduePosition.Internal = refl
@@ -85,13 +77,6 @@ position_again ResiduePosition.CTerminal = refl
 position_again ResiduePosition.FivePrime = refl
 position_again ResiduePosition.ThreePrime = refl
 
-pub position_number : (n : ℕ) (p : ResiduePosition) → position_of n ≡ FoundPosition.Position p → position_code p ≡ n
+pub position_number : (n : ℕ) (p : ResiduePosition) → position_of n ≡ Some p → position_code p ≡ n
 unfolding residue_positions positions position_of
-position_number n p e = numbered number positions FoundPosition.None (FoundPosition.Position p) refl other n e
-  where
-    number : FoundPosition → ℕ
-    number (FoundPosition.Position p) = position_code p
-    number FoundPosition.None = 0
-
-    other : FoundPosition.Position p ≡ FoundPosition.None → ⊥
-    other e = let z : ◌≡◌ {A = ℕ} 0 1 = cc in omega arith
+position_number n p e = numbered (code_in position_code) positions None (Some p) refl some_not n e

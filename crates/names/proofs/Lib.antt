@@ -8,8 +8,8 @@ pub mod PackingTurns
 pub mod PlacesInOrder
 pub mod ResiduesByNumber
 pub mod ResolvingTwice
-pub mod RowNumbers
 pub mod RowsInOrder
+pub mod SymbolTable
 pub mod SymbolsByName
 pub mod SymbolsReadAgain
 pub mod TablesByTest

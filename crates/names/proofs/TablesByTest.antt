@@ -3,9 +3,12 @@ use mathlib.Core.Path.{◌≡◌, refl, sym, ap, ◌∙◌, subst}
 use mathlib.Core.List.{List, [], ◌∷◌, map}
 use Prim.Native.Nat.{ℕ, zero, suc, ◌+◌, ◌-◌, ◌≤◌, ◌<◌}
 use native.Mathlib.Nat.{add-zero, zero-add, add-suc, suc-add, le_of_suc-le-suc, not-suc-le-zero}
-use native.Mathlib.Numerals.{sub-one}
 use native.Mathlib.Omega.{arith}
 use native.Mathlib.Decide.{dec_lt}
+use denote.Ref.{Bor}
+use Rattle.std.specs.Prelude.{Option, Some, None, slice_get, option_copied}
+use Rattle.std.specs.Slice.{IsItemAt}
+use Rattle.std.proofs.lemmas.Option.{slice_get_past, slice_get_read}
 use lib.ListN.{length, get_or, length-map, get_or-map, get_or-eq_default}
 
 -- the n places from i on
@@ -33,10 +36,23 @@ any_default (x ∷ l) (suc k) d e h = any_default l k d e (le_of_suc-le-suc h)
 pub answered : {A B : Type 0} (f : A → B) (l : List A) (d : A) (e : B) (k : ℕ) → k < length l → f (get_or l k d) ≡ get_or (map f l) k e
 answered f l d e k h = sym (get_or-map f l k d) ∙ any_default (map f l) k (f d) e (subst (λ (n : ℕ). k < n) (sym (length-map l f)) h)
 
--- the same where the places count from 1, and 0 has no entry
-pub answered_from_one : {A B : Type 0} (f : A → B) (l : List A) (d : A) (e : B) (k : ℕ) → 1 ≤ k → k ≤ length l → f (get_or l (k - 1) d) ≡ get_or (e ∷ map f l) k e
-answered_from_one f l d e zero h j = absurd (not-suc-le-zero h)
-answered_from_one {B = B} f l d e (suc k) h j = rw sub-one (answered f l d e k j)
+-- what stands at a place, if anything does: what `get` lends of a table
+looked_up_lem : {A : Type 0} (l : List A) (k : ℕ) → slice_get l k ≡ get_or (map Some l) k None
+looked_up_lem [] k = refl
+looked_up_lem (x ∷ l) zero = refl
+looked_up_lem (x ∷ l) (suc k) = looked_up_lem l k
+
+copied_at : {A : Type 0} (l : List A) (k : ℕ) (r : Option (Bor A)) → IsItemAt l k r → option_copied r ≡ slice_get l k
+copied_at l k None h = sym (slice_get_past l k h.3)
+copied_at l k (Some x) h = sym (slice_get_read l (length l) k x.now refl h.3.0 (h.3.1 x.now))
+
+pub looked_up : {A : Type 0} (l : List A) (k : ℕ) (r : Option (Bor A)) → IsItemAt l k r → option_copied r ≡ get_or (map Some l) k None
+looked_up l k r h = copied_at l k r h ∙ looked_up_lem l k
+
+-- the same where the places count from 1, and nothing stands at 0
+pub looked_up_from_one : {A : Type 0} (l : List A) (n k : ℕ) (r : Option (Bor A)) → (1 ≤ n) × (k ≡ n - 1) → IsItemAt l k r → option_copied r ≡ get_or (None ∷ map Some l) n None
+looked_up_from_one l zero k r e h = absurd (omega arith)
+looked_up_from_one l (suc n) k r e h = let same : n ≡ k = omega arith in looked_up l k r h ∙ ap (λ (m : ℕ). get_or (map Some l) m None) (sym same)
 
 -- where the entries are numbered by their places, what stands at place k and is not the default has the number k
 pub numbered : {A : Type 0} (number : A → ℕ) (l : List A) (d a : A) → map number l ≡ map (λ (k : ℕ). k) (places 0 (length l)) → (a ≡ d → ⊥) → (k : ℕ) → get_or l k d ≡ a → number a ≡ k

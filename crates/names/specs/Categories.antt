@@ -1,10 +1,8 @@
 -- The categories of residues, the number that stands for each in a lent record, and the name that it is shown by.
-use Rattle.std.specs.Prelude.{ℕ, List, [], ◌∷◌, map, get_or}
+use Rattle.std.specs.Prelude.{ℕ, List, [], ◌∷◌, map, get_or, Option, Some, None}
 use Rattle.ascii.specs.Bytes.{bytes}
 use Rattle.names.specs.declared.residues.ResidueCategory.{ResidueCategory}
 use Rattle.names.specs.declared.residues.ResidueCategory.TheVariants.{Standard, Hetero, Ion}
-use Rattle.names.specs.declared.residues.FoundCategory.{FoundCategory}
-use Rattle.names.specs.declared.residues.FoundCategory.TheVariants.{Category, None}
 
 abbrev pub category_code : ResidueCategory → ℕ
 category_code Standard = 1
@@ -21,9 +19,9 @@ unfoldable pub residue_categories : List ResidueCategory
 residue_categories = Standard ∷ Hetero ∷ Ion ∷ []
 
 -- the categories of the numbers from 0 on, of which 0 has none
-unfoldable pub categories : List FoundCategory
-categories = None ∷ map Category residue_categories
+unfoldable pub categories : List (Option ResidueCategory)
+categories = None ∷ map Some residue_categories
 
 -- the category of a number; past the list there is none
-unfoldable pub category_of : ℕ → FoundCategory
+unfoldable pub category_of : ℕ → Option ResidueCategory
 category_of n = get_or categories n None

@@ -1,9 +1,7 @@
 -- What a residue is a part of: the twenty amino acids are protein, the bases nucleic, and water neither.
-use Rattle.std.specs.Prelude.{ℕ, Bool, true, false}
+use Rattle.std.specs.Prelude.{ℕ, Bool, true, false, Option, Some, None}
 use Rattle.names.specs.declared.residues.StandardResidue.{StandardResidue}
 use Rattle.names.specs.declared.residues.StandardResidue.TheVariants.{ALA, ARG, ASN, ASP, CYS, GLN, GLU, GLY, HIS, ILE, LEU, LYS, MET, PHE, PRO, SER, THR, TRP, TYR, VAL, A, C, G, U, I, DA, DC, DG, DT, DI, HOH}
-use Rattle.names.specs.declared.residues.FoundResidue.{FoundResidue}
-use Rattle.names.specs.declared.residues.FoundResidue.TheVariants.{Residue, None}
 use Rattle.names.specs.declared.residues.Polymer.{Polymer}
 use Rattle.names.specs.declared.residues.Polymer.TheVariants.{Protein, Nucleic, Neither}
 use Rattle.names.specs.Residues.{residue_of}
@@ -57,8 +55,8 @@ is_protein r = protein (kind_of r)
 abbrev pub is_nucleic : StandardResidue → Bool
 is_nucleic r = nucleic (kind_of r)
 
-abbrev pub kind_in : FoundResidue → Polymer
-kind_in (Residue r) = kind_of r
+abbrev pub kind_in : Option StandardResidue → Polymer
+kind_in (Some r) = kind_of r
 kind_in None = Neither
 
 -- by the residue's number in a lent record

@@ -1,9 +1,7 @@
 -- The positions of residues in their chain, the number that stands for each in a lent record, and the name that it is shown by.
-use Rattle.std.specs.Prelude.{ℕ, List, [], ◌∷◌, map, get_or}
+use Rattle.std.specs.Prelude.{ℕ, List, [], ◌∷◌, map, get_or, Option, Some, None}
 use Rattle.ascii.specs.Bytes.{bytes}
 use Rattle.names.specs.declared.residues.ResiduePosition.{ResiduePosition}
-use Rattle.names.specs.declared.residues.FoundPosition.{FoundPosition}
-use Rattle.names.specs.declared.residues.FoundPosition.TheVariants.{Position}
 
 abbrev pub position_code : ResiduePosition → ℕ
 position_code ResiduePosition.None = 0
@@ -33,9 +31,9 @@ residue_positions =
     ∷ []
 
 -- the positions of the numbers from 0 on
-unfoldable pub positions : List FoundPosition
-positions = map Position residue_positions
+unfoldable pub positions : List (Option ResiduePosition)
+positions = map Some residue_positions
 
 -- the position of a number; past the list there is none
-unfoldable pub position_of : ℕ → FoundPosition
-position_of n = get_or positions n FoundPosition.None
+unfoldable pub position_of : ℕ → Option ResiduePosition
+position_of n = get_or positions n None

@@ -1,10 +1,8 @@
 -- The standard residues: the number that stands for each in a lent record, and the name that it is shown by.
-use Rattle.std.specs.Prelude.{ℕ, List, [], ◌∷◌, map, get_or}
+use Rattle.std.specs.Prelude.{ℕ, List, [], ◌∷◌, map, get_or, Option, Some, None}
 use Rattle.ascii.specs.Bytes.{bytes}
 use Rattle.names.specs.declared.residues.StandardResidue.{StandardResidue}
 use Rattle.names.specs.declared.residues.StandardResidue.TheVariants.{ALA, ARG, ASN, ASP, CYS, GLN, GLU, GLY, HIS, ILE, LEU, LYS, MET, PHE, PRO, SER, THR, TRP, TYR, VAL, A, C, G, U, I, DA, DC, DG, DT, DI, HOH}
-use Rattle.names.specs.declared.residues.FoundResidue.{FoundResidue}
-use Rattle.names.specs.declared.residues.FoundResidue.TheVariants.{Residue, None}
 
 -- in the order of their numbers, from 1 on
 unfoldable pub standard_residues : List StandardResidue
@@ -15,8 +13,8 @@ standard_residues =
     ∷ HOH ∷ []
 
 -- the residues of the numbers from 0 on, of which 0 has none
-unfoldable pub residues : List FoundResidue
-residues = None ∷ map Residue standard_residues
+unfoldable pub residues : List (Option StandardResidue)
+residues = None ∷ map Some standard_residues
 
 unfoldable pub residue_code : StandardResidue → ℕ
 residue_code ALA = 1
@@ -52,7 +50,7 @@ residue_code DI = 30
 residue_code HOH = 31
 
 -- the residue of a number; past the list there is none
-unfoldable pub residue_of : ℕ → FoundResidue
+unfoldable pub residue_of : ℕ → Option StandardResidue
 residue_of n = get_or residues n None
 
 unfoldable pub residue_name : StandardResidue → List ℕ

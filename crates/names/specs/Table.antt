@@ -1,11 +1,10 @@
 -- The residue names, in the order of the Rust's context.rs: 40 canonical names, and 154 aliases that each lead to one of them.
-use Rattle.std.specs.Prelude.{ℕ, List, [], ◌∷◌, ◌++◌, Bool, false, ◌||◌, cond, eqb}
+use Rattle.std.specs.Prelude.{ℕ, List, [], ◌∷◌, ◌++◌, Bool, false, ◌||◌, cond, eqb, Option, Some, None}
 use Prim.Native.String.{String}
 use Rattle.ascii.specs.Bytes.{bytes}
 use Rattle.names.specs.declared.residues.StandardResidue.{StandardResidue}
 use Rattle.names.specs.declared.residues.StandardResidue.TheVariants.{ALA, ARG, ASN, ASP, CYS, GLN, GLU, GLY, HIS, ILE, LEU, LYS, MET, PHE, PRO, SER, THR, TRP, TYR, VAL, A, C, G, U, I, DA, DC, DG, DT, DI, HOH}
 use Rattle.names.specs.declared.table.Resolved.{Resolved}
-use Rattle.names.specs.declared.table.Resolved.TheVariants.{Standard, Unresolved}
 use Rattle.names.specs.Packing.{packed}
 
 -- a name, the canonical name that it leads to, and the standard residue of that; the names are packed
@@ -232,9 +231,9 @@ abbrev pub is_canonical : ℕ → Bool
 is_canonical n = named n canonical
 
 -- what the first row with the name n says
-unfoldable pub resolve_in : ℕ → List Row → Resolved
-resolve_in n [] = Unresolved
-resolve_in n (r ∷ l) = cond (eqb r.name n) (Standard r.target r.residue) (resolve_in n l)
+unfoldable pub resolve_in : ℕ → List Row → Option Resolved
+resolve_in n [] = None
+resolve_in n (r ∷ l) = cond (eqb r.name n) (Some (record { name = r.target; residue = r.residue })) (resolve_in n l)
 
-unfoldable pub resolve_of : ℕ → Resolved
+unfoldable pub resolve_of : ℕ → Option Resolved
 resolve_of n = resolve_in n (canonical ++ aliases)

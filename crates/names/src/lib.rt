@@ -5,13 +5,9 @@ mod elements;
 mod packing;
 mod residues;
 mod rows;
-mod search;
 mod table;
 
 pub use elements::{element_of, symbol_of};
 pub use packing::{after_first, first_byte, pack, unpack};
-pub use residues::{
-    FoundCategory, FoundPosition, FoundResidue, Polymer, ResidueCategory, ResiduePosition,
-    StandardResidue,
-};
+pub use residues::{Polymer, ResidueCategory, ResiduePosition, StandardResidue};
 pub use table::{Resolved, resolve};

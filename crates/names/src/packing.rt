@@ -13,15 +13,14 @@ pub fn pack(name: &[u8]) -> u64
     ensures { result ≡ packed name.now }
 {
     let mut number = 0;
-    let mut i = 0;
-    while i < 8 {
+    for i in 0..8 {
         number = number * 256 + byte_at(name, i) as u64;
-        i += 1;
     }
     number
 }
 
 // The first byte of a packed name; 0 where it has none.
+#[tactic(auto, using(crate::proofs::PackingTurns::unpacked_first))]
 pub fn first_byte(name: u64) -> u8
     ensures { result ≡ first (unpacked name) }
 {
@@ -29,6 +28,7 @@ pub fn first_byte(name: u64) -> u8
 }
 
 // The name without its first byte.
+#[tactic(auto, using(crate::proofs::PackingTurns::unpacked_after))]
 pub fn after_first(name: u64) -> u64
     ensures { unpacked result ≡ drop 1 (unpacked name) }
 {
@@ -36,6 +36,7 @@ pub fn after_first(name: u64) -> u64
 }
 
 // How many bytes a packed name has.
+#[tactic(auto, using(crate::proofs::PackingTurns::unpacked_none, crate::proofs::PackingTurns::unpacked_short, crate::proofs::PackingTurns::one_less))]
 pub(crate) fn name_len(name: u64) -> usize
     ensures { result ≡ length (unpacked name) }
 {
@@ -49,15 +50,14 @@ pub(crate) fn name_len(name: u64) -> usize
 }
 
 // Puts the bytes of a packed name into the cell, zeros after them, and says how many they are.
+#[tactic(auto, using(crate::proofs::CellTurns::filling_first, crate::proofs::CellTurns::filling_turn, crate::proofs::CellTurns::filling_last))]
 pub fn unpack(name: u64, cell: &mut [u8]) -> usize
     ensures { (result ≡ length (unpacked name)) × (cell.new ≡ cell_of (length cell.old) (unpacked name)) }
 {
     let mut rest = name;
-    let mut i = 0;
-    while i < cell.len() {
-        cell[i] = first_byte(rest);
+    for byte in cell.iter_mut() {
+        *byte = first_byte(rest);
         rest = after_first(rest);
-        i += 1;
     }
     name_len(name)
 }

@@ -9,7 +9,7 @@ ghost use Rattle.names.specs.Positions.{position_code, position_name, position_o
 // The twenty amino acids, the bases of RNA and of DNA, and water.
 #[derive(Clone, Copy)]
 pub enum StandardResidue {
-    ALA,
+    ALA = 1,
     ARG,
     ASN,
     ASP,
@@ -42,24 +42,11 @@ pub enum StandardResidue {
     HOH,
 }
 
-// What a number says of a residue: which standard one it is, or that it is none.
-#[derive(Clone, Copy)]
-pub enum FoundResidue {
-    Residue(StandardResidue),
-    None,
-}
-
 #[derive(Clone, Copy)]
 pub enum ResidueCategory {
-    Standard,
+    Standard = 1,
     Hetero,
     Ion,
-}
-
-#[derive(Clone, Copy)]
-pub enum FoundCategory {
-    Category(ResidueCategory),
-    None,
 }
 
 #[derive(Clone, Copy)]
@@ -72,12 +59,6 @@ pub enum ResiduePosition {
     ThreePrime,
 }
 
-#[derive(Clone, Copy)]
-pub enum FoundPosition {
-    Position(ResiduePosition),
-    None,
-}
-
 // What a residue is a part of.
 #[derive(Clone, Copy)]
 pub enum Polymer {
@@ -87,7 +68,7 @@ pub enum Polymer {
 }
 
 // The name of each number's residue, packed.
-const SHOWN: [u64; 32] = [
+static SHOWN: [u64; 32] = [
     0,
     0x414c_4100_0000_0000,
     0x4152_4700_0000_0000,
@@ -122,15 +103,50 @@ const SHOWN: [u64; 32] = [
     0x484f_4800_0000_0000,
 ];
 
+// The residues in the order of their numbers, from 1 on.
+static RESIDUES: [StandardResidue; 31] = [
+    StandardResidue::ALA,
+    StandardResidue::ARG,
+    StandardResidue::ASN,
+    StandardResidue::ASP,
+    StandardResidue::CYS,
+    StandardResidue::GLN,
+    StandardResidue::GLU,
+    StandardResidue::GLY,
+    StandardResidue::HIS,
+    StandardResidue::ILE,
+    StandardResidue::LEU,
+    StandardResidue::LYS,
+    StandardResidue::MET,
+    StandardResidue::PHE,
+    StandardResidue::PRO,
+    StandardResidue::SER,
+    StandardResidue::THR,
+    StandardResidue::TRP,
+    StandardResidue::TYR,
+    StandardResidue::VAL,
+    StandardResidue::A,
+    StandardResidue::C,
+    StandardResidue::G,
+    StandardResidue::U,
+    StandardResidue::I,
+    StandardResidue::DA,
+    StandardResidue::DC,
+    StandardResidue::DG,
+    StandardResidue::DT,
+    StandardResidue::DI,
+    StandardResidue::HOH,
+];
+
 // The categories in the order of their numbers, from 1 on.
-const CATEGORIES: [ResidueCategory; 3] = [
+static CATEGORIES: [ResidueCategory; 3] = [
     ResidueCategory::Standard,
     ResidueCategory::Hetero,
     ResidueCategory::Ion,
 ];
 
 // The positions in the order of their numbers, from 0 on.
-const POSITIONS: [ResiduePosition; 6] = [
+static POSITIONS: [ResiduePosition; 6] = [
     ResiduePosition::None,
     ResiduePosition::Internal,
     ResiduePosition::NTerminal,
@@ -144,78 +160,14 @@ impl StandardResidue {
     pub fn code(self) -> u8
         ensures { result ≡ residue_code self }
     {
-        match self {
-            StandardResidue::ALA => 1,
-            StandardResidue::ARG => 2,
-            StandardResidue::ASN => 3,
-            StandardResidue::ASP => 4,
-            StandardResidue::CYS => 5,
-            StandardResidue::GLN => 6,
-            StandardResidue::GLU => 7,
-            StandardResidue::GLY => 8,
-            StandardResidue::HIS => 9,
-            StandardResidue::ILE => 10,
-            StandardResidue::LEU => 11,
-            StandardResidue::LYS => 12,
-            StandardResidue::MET => 13,
-            StandardResidue::PHE => 14,
-            StandardResidue::PRO => 15,
-            StandardResidue::SER => 16,
-            StandardResidue::THR => 17,
-            StandardResidue::TRP => 18,
-            StandardResidue::TYR => 19,
-            StandardResidue::VAL => 20,
-            StandardResidue::A => 21,
-            StandardResidue::C => 22,
-            StandardResidue::G => 23,
-            StandardResidue::U => 24,
-            StandardResidue::I => 25,
-            StandardResidue::DA => 26,
-            StandardResidue::DC => 27,
-            StandardResidue::DG => 28,
-            StandardResidue::DT => 29,
-            StandardResidue::DI => 30,
-            StandardResidue::HOH => 31,
-        }
+        self as u8
     }
 
-    pub fn of_code(code: u8) -> FoundResidue
+    pub fn of_code(code: u8) -> Option<StandardResidue>
         ensures { result ≡ residue_of code }
     {
-        match code {
-            1 => FoundResidue::Residue(StandardResidue::ALA),
-            2 => FoundResidue::Residue(StandardResidue::ARG),
-            3 => FoundResidue::Residue(StandardResidue::ASN),
-            4 => FoundResidue::Residue(StandardResidue::ASP),
-            5 => FoundResidue::Residue(StandardResidue::CYS),
-            6 => FoundResidue::Residue(StandardResidue::GLN),
-            7 => FoundResidue::Residue(StandardResidue::GLU),
-            8 => FoundResidue::Residue(StandardResidue::GLY),
-            9 => FoundResidue::Residue(StandardResidue::HIS),
-            10 => FoundResidue::Residue(StandardResidue::ILE),
-            11 => FoundResidue::Residue(StandardResidue::LEU),
-            12 => FoundResidue::Residue(StandardResidue::LYS),
-            13 => FoundResidue::Residue(StandardResidue::MET),
-            14 => FoundResidue::Residue(StandardResidue::PHE),
-            15 => FoundResidue::Residue(StandardResidue::PRO),
-            16 => FoundResidue::Residue(StandardResidue::SER),
-            17 => FoundResidue::Residue(StandardResidue::THR),
-            18 => FoundResidue::Residue(StandardResidue::TRP),
-            19 => FoundResidue::Residue(StandardResidue::TYR),
-            20 => FoundResidue::Residue(StandardResidue::VAL),
-            21 => FoundResidue::Residue(StandardResidue::A),
-            22 => FoundResidue::Residue(StandardResidue::C),
-            23 => FoundResidue::Residue(StandardResidue::G),
-            24 => FoundResidue::Residue(StandardResidue::U),
-            25 => FoundResidue::Residue(StandardResidue::I),
-            26 => FoundResidue::Residue(StandardResidue::DA),
-            27 => FoundResidue::Residue(StandardResidue::DC),
-            28 => FoundResidue::Residue(StandardResidue::DG),
-            29 => FoundResidue::Residue(StandardResidue::DT),
-            30 => FoundResidue::Residue(StandardResidue::DI),
-            31 => FoundResidue::Residue(StandardResidue::HOH),
-            _ => FoundResidue::None,
-        }
+        let place = code.checked_sub(1)?;
+        RESIDUES.get(place as usize).copied()
     }
 
     // The name that the residue is shown by, packed.
@@ -226,29 +178,24 @@ impl StandardResidue {
         SHOWN[i]
     }
 
+    #[tactic(auto, using(crate::proofs::ResiduesByNumber::kind_by_code, crate::proofs::ResiduesByNumber::not_protein))]
     pub fn is_protein(self) -> bool
         ensures { result ≡ is_protein self }
     {
-        match Polymer::of_code(self.code()) {
-            Polymer::Protein => true,
-            Polymer::Nucleic => false,
-            Polymer::Neither => false,
-        }
+        matches!(Polymer::of_code(self.code()), Polymer::Protein)
     }
 
+    #[tactic(auto, using(crate::proofs::ResiduesByNumber::kind_by_code, crate::proofs::ResiduesByNumber::not_nucleic))]
     pub fn is_nucleic(self) -> bool
         ensures { result ≡ is_nucleic self }
     {
-        match Polymer::of_code(self.code()) {
-            Polymer::Protein => false,
-            Polymer::Nucleic => true,
-            Polymer::Neither => false,
-        }
+        matches!(Polymer::of_code(self.code()), Polymer::Nucleic)
     }
 }
 
 impl Polymer {
     // What the residue of a number is a part of: the amino acids come first, then the bases.
+    #[tactic(auto, using(crate::proofs::ResiduesByNumber::is_protein_lem, crate::proofs::ResiduesByNumber::is_nucleic_lem, crate::proofs::ResiduesByNumber::is_neither_first, crate::proofs::ResiduesByNumber::is_neither_last))]
     pub fn of_code(code: u8) -> Polymer
         ensures { result ≡ polymer_of code }
     {
@@ -265,14 +212,11 @@ impl ResidueCategory {
     pub fn code(self) -> u8
         ensures { result ≡ category_code self }
     {
-        match self {
-            ResidueCategory::Standard => 1,
-            ResidueCategory::Hetero => 2,
-            ResidueCategory::Ion => 3,
-        }
+        self as u8
     }
 
     // The name that the category is shown by, zeros after it.
+    #[tactic(auto, unfolding(crate::specs::Packing::cell_of))]
     pub fn name(self) -> [u8; 16]
         ensures { result ≡ cell_of 16 (category_name self) }
     {
@@ -283,18 +227,12 @@ impl ResidueCategory {
         }
     }
 
-    pub fn of_code(code: u8) -> FoundCategory
+    #[tactic(auto, unfolding(crate::specs::Categories::residue_categories, crate::specs::Categories::categories, crate::specs::Categories::category_of))]
+    pub fn of_code(code: u8) -> Option<ResidueCategory>
         ensures { result ≡ category_of code }
     {
-        if code < 1 {
-            return FoundCategory::None;
-        }
-        if 3 < code {
-            return FoundCategory::None;
-        }
-        let i = (code - 1) as usize;
-        let category = CATEGORIES[i];
-        FoundCategory::Category(category)
+        let place = code.checked_sub(1)?;
+        CATEGORIES.get(place as usize).copied()
     }
 }
 
@@ -303,17 +241,11 @@ impl ResiduePosition {
     pub fn code(self) -> u8
         ensures { result ≡ position_code self }
     {
-        match self {
-            ResiduePosition::None => 0,
-            ResiduePosition::Internal => 1,
-            ResiduePosition::NTerminal => 2,
-            ResiduePosition::CTerminal => 3,
-            ResiduePosition::FivePrime => 4,
-            ResiduePosition::ThreePrime => 5,
-        }
+        self as u8
     }
 
     // The name that the position is shown by, zeros after it.
+    #[tactic(auto, unfolding(crate::specs::Packing::cell_of))]
     pub fn name(self) -> [u8; 16]
         ensures { result ≡ cell_of 16 (position_name self) }
     {
@@ -327,14 +259,10 @@ impl ResiduePosition {
         }
     }
 
-    pub fn of_code(code: u8) -> FoundPosition
+    #[tactic(auto, unfolding(crate::specs::Positions::residue_positions, crate::specs::Positions::positions, crate::specs::Positions::position_of))]
+    pub fn of_code(code: u8) -> Option<ResiduePosition>
         ensures { result ≡ position_of code }
     {
-        if 5 < code {
-            return FoundPosition::None;
-        }
-        let i = code as usize;
-        let position = POSITIONS[i];
-        FoundPosition::Position(position)
+        POSITIONS.get(code as usize).copied()
     }
 }

@@ -1,34 +1,35 @@
-// The table of residue names: each name with the canonical name that it leads to and the standard residue of that.
+// What a residue name leads to, by the table of residue names.
 ghost use Rattle.std.specs.Prelude.{◌≡◌};
+ghost use Rattle.names.specs.Places.{place_of};
+ghost use Rattle.names.specs.Rows.{in_order, names};
 ghost use Rattle.names.specs.Table.{resolve_of};
 
-use crate::residues::{FoundResidue, StandardResidue};
-use crate::rows::{FOURTH, row_at};
-use crate::search::{Place, place_in_order};
+use crate::residues::StandardResidue;
+use crate::rows::ROWS;
 
+// The canonical name, and its standard residue.
 #[derive(Clone, Copy)]
-pub enum Resolved {
-    // The canonical name and its standard residue.
-    Standard { name: u64, residue: StandardResidue },
-    Unresolved,
+pub struct Resolved {
+    pub name: u64,
+    pub residue: StandardResidue,
 }
 
-// What the third of a number's 8 bytes counts.
-const THIRD: u64 = 0x0000_0100_0000_0000;
+// The place of a name among the rows, which stand in the order of their names.
+fn place_in_order(name: u64) -> Option<usize>
+    ensures { result ≡ place_of name (names in_order) }
+{
+    ROWS.binary_search_by_key(&name, |row| row.0).ok()
+}
 
-pub fn resolve(name: u64) -> Resolved
+// What a name leads to; `None` for a name that the table does not have.
+#[tactic(auto, using(crate::proofs::RowsInOrder::row_there, crate::proofs::RowsInOrder::resolved_at, crate::proofs::RowsInOrder::resolved_nowhere))]
+pub fn resolve(name: u64) -> Option<Resolved>
     ensures { result ≡ resolve_of name }
 {
-    let Place::At(i) = place_in_order(name) else {
-        return Resolved::Unresolved;
-    };
-    let row = row_at(i);
-    let target = row % FOURTH / 256 * THIRD;
-    match StandardResidue::of_code((row % 256) as u8) {
-        FoundResidue::Residue(residue) => Resolved::Standard {
-            name: target,
-            residue,
-        },
-        FoundResidue::None => Resolved::Unresolved,
-    }
+    let i = place_in_order(name)?;
+    let row = ROWS[i];
+    Some(Resolved {
+        name: row.1,
+        residue: row.2,
+    })
 }

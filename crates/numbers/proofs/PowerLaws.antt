@@ -1,9 +1,13 @@
--- Powers of ten: the next one, their order, and the sixteen that both a 64-bit number and a double hold.
-use mathlib.Core.Path.{◌≡◌, sym, ap}
-use Prim.Native.Nat.{ℕ, zero, suc, ◌+◌, ◌*◌, ◌^◌, ◌≤◌, ◌<◌, zero-le}
+-- Powers of ten: the next one, their order, and the table of the sixteen that both a 64-bit number and a double hold.
+use mathlib.Core.Path.{◌≡◌, refl, ap, ◌∙◌}
+use mathlib.Core.List.{List, [], ◌∷◌, map}
+use Prim.Native.Nat.{ℕ, ◌+◌, ◌*◌, ◌^◌, ◌≤◌, ◌<◌}
 use native.Mathlib.Nat.{pow-suc, pow-le-pow_right, zero-lt-suc, one-le-pow}
 use native.Mathlib.Numerals.{add-one}
-use lib.Arith.{lt_of_le-ne}
+use native.Mathlib.Omega.{arith}
+use lib.ListN.{get_or}
+use Rattle.std.specs.List.{range_with_len}
+use Rattle.std.proofs.lemmas.List.FromFn.{get_or-map-range_with_len}
 
 pub ten_next : (k : ℕ) → 10 ^ (k + 1) ≡ 10 ^ k * 10
 ten_next k = rw (add-one, pow-suc)
@@ -17,14 +21,14 @@ ten_fits k h = ten_grows k 15 h
 pub ten_positive : (k : ℕ) → 0 < 10 ^ k
 ten_positive k = one-le-pow k 10 (zero-lt-suc 9)
 
--- ---- the arms of a match on k: the power at each, and what is left after the first so many
-pub ten_at : {k i : ℕ} → k ≡ i → 10 ^ i ≡ 10 ^ k
-ten_at e = sym (ap (λ (j : ℕ). 10 ^ j) e)
+-- ---- the table of the first sixteen, by one computation
+abbrev powers : List ℕ
+powers =
+    1 ∷ 10 ∷ 100 ∷ 1000 ∷ 10000 ∷ 100000 ∷ 1000000 ∷ 10000000 ∷ 100000000 ∷ 1000000000 ∷ 10000000000 ∷ 100000000000 ∷ 1000000000000 ∷ 10000000000000 ∷ 100000000000000
+    ∷ 1000000000000000 ∷ []
 
-abbrev pub Passed : ℕ → ℕ → Type 0
-Passed zero k = Unit {0}
-Passed (suc i) k = Passed i k × (k ≡ i → ⊥)
+powers_are : powers ≡ map (λ k. 10 ^ k) (range_with_len 0 16)
+powers_are = refl
 
-pub passed : (i k : ℕ) → Passed i k → i ≤ k
-passed zero k p = zero-le
-passed (suc i) k p = lt_of_le-ne (passed i k p.0) (λ e. p.1 (sym e))
+pub power_at : (k : ℕ) → k ≤ 15 → get_or powers k 0 ≡ 10 ^ k
+power_at k h = ap (λ (l : List ℕ). get_or l k 0) powers_are ∙ get_or-map-range_with_len (λ k. 10 ^ k) 0 16 k k 0 (omega arith) (omega arith)

@@ -14,7 +14,7 @@ use lib.Ieee.Nearest.{closest, closest_mono}
 use borrow.Author.Tests.{ne_eqb}
 use Rattle.ascii.specs.Bytes.{first}
 use Rattle.ascii.specs.Digits.{digit_run, number_from}
-use Rattle.numbers.specs.declared.reading.Number.TheVariants.{Value}
+use Rattle.std.specs.Prelude.{Ok}
 use Rattle.numbers.specs.Grammar.{decimal, unsigned, spelling_of}
 use Rattle.ascii.specs.Signs.{is_sign, after_sign}
 use Rattle.numbers.specs.Reading.{all_together, read_as, number_of}
@@ -76,7 +76,7 @@ module _ (places : ℕ) (negative : Bool) (n : ℕ) (few : places ≤ 8) (near :
       ∙ from_digits (n / p) places n
       ∙ div-add-mod' n p
 
-  read_fixed : number_of (fixed_text places negative n) ≡ Value (round binary64 negative n (10 ^ places))
+  read_fixed : number_of (fixed_text places negative n) ≡ Ok (round binary64 negative n (10 ^ places))
   unfolding number_of fixed_text digit_count
   read_fixed =
       let w = n / 10 ^ places in
@@ -95,11 +95,11 @@ module _ (places : ℕ) (negative : Bool) (n : ℕ) (few : places ≤ 8) (near :
       (digits_run places n ∙ sym F-long)
       (subst (λ (k : ℕ). 0 < k) (sym W-long) some) negative)
       ∙ read_near negative W F (omega arith) (subst (λ (k : ℕ). all_together W F ≤ 1000000 * 10 ^ k) (sym F-long) (subst (λ (v : ℕ). v ≤ 1000000 * 10 ^ places) (sym all) near))
-      ∙ ap (λ (v : ℕ). Value (round binary64 negative v (10 ^ length F))) all
-      ∙ ap (λ (k : ℕ). Value (round binary64 negative n (10 ^ k))) F-long
+      ∙ ap (λ (v : ℕ). Ok (round binary64 negative v (10 ^ length F))) all
+      ∙ ap (λ (k : ℕ). Ok (round binary64 negative n (10 ^ k))) F-long
 
 -- ---- the theorem
-pub printed_reads_back : (places : ℕ) (x : Float) → places ≤ 8 → T (printable x) → number_of (text_of places x) ≡ Value (round binary64 (is_negative x) (units_of places x) (10 ^ places))
+pub printed_reads_back : (places : ℕ) (x : Float) → places ≤ 8 → T (printable x) → number_of (text_of places x) ≡ Ok (round binary64 (is_negative x) (units_of places x) (10 ^ places))
 unfolding text_of
 printed_reads_back places x few h = read_fixed places (is_negative x) (units_of places x) few (units_near places x h)
 

@@ -7,18 +7,20 @@ use Prim.Native.Nat.{ℕ, zero, suc, ◌+◌, ◌/◌, ◌%◌, ◌^◌, ◌≤�
 use native.Mathlib.Nat.{le_refl, le_trans, le_antisymm, lt_irrefl, lt_of_lt_of_le, le_of_suc-le-suc, pow-suc, zero-lt-suc, div-lt_iff_lt-mul}
 use native.Mathlib.Numerals.{add-one}
 use native.Mathlib.Omega.{arith}
-use lib.Dec.{T, ltb, ltb→lt, lit<, lit≤}
+use lib.Dec.{T, ltb, ltb→lt, lit<}
 use lib.ListN.{length, set, length-append}
 use lib.Seq.{sets}
 use borrow.Author.Tests.{lt-ltb}
+use mir.Val.{bool_byte}
 use Rattle.ascii.proofs.OutputLaws.{sets_last}
 use lib.Ieee.{Float}
-use Rattle.ascii.specs.declared.output.Placed.{Placed}
+use Rattle.std.specs.Prelude.{Result, Err}
+use Rattle.ascii.specs.declared.output.NoRoom.{NoRoom}
 use Rattle.ascii.specs.Output.{placed_of, buffer_after}
-use Rattle.numbers.specs.declared.printing.Printed.TheVariants.{BeyondReach, Put}
+use Rattle.numbers.specs.declared.printing.PrintError.TheVariants as print_error
 use Rattle.numbers.specs.Rounding.{printable, units_of, is_negative}
 use Rattle.numbers.specs.Printing.{last_digits, count_up_to, digit_count, sign, fixed_text, text_of}
-use Rattle.numbers.specs.Writing.{printed_of, after_printing}
+use Rattle.numbers.specs.Writing.{as_printed, printed_of, after_printing}
 use Rattle.numbers.proofs.Comparing.{le_or_lt}
 use Rattle.numbers.proofs.PowerLaws.{ten_grows}
 
@@ -86,10 +88,15 @@ pub digit_count_fits : (n : ℕ) → digit_count n ≤ 20
 unfolding digit_count
 digit_count_fits n = count_fits 19 n
 
+pub sign_counts : (negative : Bool) → bool_byte negative ≡ length (sign negative)
+unfolding sign
+sign_counts true = refl
+sign_counts false = refl
+
 pub sign_fits : (negative : Bool) → length (sign negative) ≤ 1
 unfolding sign
-sign_fits true = lit≤ tt
-sign_fits false = lit≤ tt
+sign_fits true = omega arith
+sign_fits false = omega arith
 
 -- ---- digits from the right
 pub digits_length : (c n : ℕ) → length (last_digits c n) ≡ c
@@ -142,16 +149,16 @@ text_of_lem places x {n = n} s u = ap (λ (t : Bool). fixed_text places t n) s �
 
 -- ---- what became of it
 module _ (places : ℕ) (x : Float) (buffer : List ℕ) (at : ℕ) where
-  pub put_none : printable x ≡ false → (BeyondReach ≡ printed_of places x buffer at) × (buffer ≡ after_printing places x buffer at)
+  pub put_none : printable x ≡ false → (Err print_error.BeyondReach ≡ printed_of places x buffer at) × (buffer ≡ after_printing places x buffer at)
   unfolding printed_of after_printing
   put_none e = (sym (simp e), sym (simp e))
 
-  pub put_some : {negative : Bool} {n : ℕ} {r : Placed} {after : List ℕ} → printable x ≡ true → negative ≡ is_negative x → n ≡ units_of places x
+  pub put_some : {negative : Bool} {n : ℕ} {r : Result ℕ NoRoom} {after : List ℕ} → printable x ≡ true → negative ≡ is_negative x → n ≡ units_of places x
       → (r ≡ placed_of buffer at (fixed_text places negative n)) × (after ≡ buffer_after buffer at (fixed_text places negative n))
-      → (Put r ≡ printed_of places x buffer at) × (after ≡ after_printing places x buffer at)
+      → (as_printed r ≡ printed_of places x buffer at) × (after ≡ after_printing places x buffer at)
   unfolding printed_of after_printing
   put_some {negative} {n} e s u p =
       let same : fixed_text places negative n ≡ text_of places x = text_of_lem places x s u in (
-        sym (simp e (ap Put (sym (p.0 ∙ ap (λ (l : List ℕ). placed_of buffer at l) same)))),
+        sym (simp e (ap as_printed (sym (p.0 ∙ ap (λ (l : List ℕ). placed_of buffer at l) same)))),
         sym (simp e (sym (p.1 ∙ ap (λ (l : List ℕ). buffer_after buffer at l) same))),
       )

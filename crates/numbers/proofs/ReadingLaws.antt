@@ -9,7 +9,8 @@ use lib.Dec.{lit<}
 use lib.ListN.{length}
 use lib.Ieee.{binary64, round}
 use borrow.Author.Tests.{le-leb, lt-leb, ne_eqb}
-use Rattle.numbers.specs.declared.reading.Number.TheVariants.{BeyondReach, Value}
+use Rattle.std.specs.Prelude.{Ok, Err}
+use Rattle.numbers.specs.declared.reading.NumberError.TheVariants.{BeyondReach}
 use Rattle.numbers.specs.Grammar.{decimal}
 use Rattle.numbers.specs.Reading.{all_together, within_reach, value_of, read_as}
 use Rattle.ascii.specs.Digits.{number_from, capped}
@@ -17,11 +18,11 @@ use Rattle.ascii.proofs.DigitLaws.{from_below, capped_small}
 use Rattle.numbers.proofs.PowerLaws.{ten_fits}
 
 module _ (negative : Bool) (whole places : List ℕ) where
-  pub read_exponent : (exponent : List ℕ) → (length exponent ≡ 0 → ⊥) → read_as (decimal negative whole places exponent) ≡ BeyondReach
+  pub read_exponent : (exponent : List ℕ) → (length exponent ≡ 0 → ⊥) → read_as (decimal negative whole places exponent) ≡ Err BeyondReach
   unfolding read_as within_reach
   read_exponent exponent n = simp (ne_eqb (length exponent) 0 n)
 
-  pub read_long : 15 < length whole + length places → read_as (decimal negative whole places []) ≡ BeyondReach
+  pub read_long : 15 < length whole + length places → read_as (decimal negative whole places []) ≡ Err BeyondReach
   unfolding read_as within_reach
   read_long h = simp (lt-leb (length whole + length places) 15 h)
 
@@ -32,7 +33,7 @@ module _ (negative : Bool) (whole places : List ℕ) where
   read_few h = simp (le-leb (length whole + length places) 15 h)
 
   pub read_near : length whole + length places ≤ 15 → all_together whole places ≤ 1000000 * 10 ^ length places
-      → read_as (decimal negative whole places []) ≡ Value (round binary64 negative (all_together whole places) (10 ^ length places))
+      → read_as (decimal negative whole places []) ≡ Ok (round binary64 negative (all_together whole places) (10 ^ length places))
   read_near h k = read_few h ∙ simp (le-leb (all_together whole places) (1000000 * 10 ^ length places) k)
 
 -- ---- the whole number that few digits write

@@ -9,7 +9,9 @@ use lib.Dec.{T, leb, eqb, leb→le, eqb→eq}
 use lib.ListN.{length}
 use lib.Ieee.{Float, nan, inf, fin, is_nan, Format, binary64, round}
 use lib.Ieee.Fits.{and_l, and_r}
-use Rattle.numbers.specs.declared.reading.Number.TheVariants.{OutsideGrammar, BeyondReach, Value}
+use Rattle.std.specs.Prelude.{Result, Ok, Err}
+use Rattle.numbers.specs.declared.reading.NumberError.{NumberError}
+use Rattle.numbers.specs.declared.reading.NumberError.TheVariants.{OutsideGrammar, BeyondReach}
 use Rattle.numbers.specs.Grammar.{Spelling, outside, word, decimal, spelling_of}
 use Rattle.numbers.specs.Reading.{all_together, within_reach, read_as, number_of}
 use Rattle.numbers.specs.Nearest.{NearestTo, NearestOfText}
@@ -18,13 +20,10 @@ use Rattle.numbers.proofs.PowerLaws.{ten_positive}
 use Rattle.numbers.proofs.ReadingLaws.{empty}
 
 -- ---- which answer it is
-no_outside : (x : Float) → OutsideGrammar ≡ Value x → ⊥
-no_outside x e = let z : ◌≡◌ {A = ℕ} 0 1 = cc in omega arith
+pub no_value : (why : NumberError) (x : Float) → Err why ≡ Ok x → ⊥
+no_value why x e = let z : ◌≡◌ {A = ℕ} 0 1 = cc in omega arith
 
-pub no_beyond : (x : Float) → BeyondReach ≡ Value x → ⊥
-no_beyond x e = let z : ◌≡◌ {A = ℕ} 0 1 = cc in omega arith
-
-same_value : (x y : Float) → Value x ≡ Value y → x ≡ y
+same_value : (x y : Float) → ◌≡◌ {A = Result Float NumberError} (Ok x) (Ok y) → x ≡ y
 same_value x y e = cc
 
 -- ---- a decimal that has a value
@@ -44,33 +43,33 @@ module _ (negative : Bool) (whole places exponent : List ℕ) where
       more : (n p : ℕ) → n ≤ 1000000 * p → n ≤ 9007199254740992 * p
       more n p h = omega arith
 
-  decimal_value : (x : Float) → read_as (decimal negative whole places exponent) ≡ Value x → (exponent ≡ []) × NearestTo binary64 negative (all_together whole places) (10 ^ length places) x
+  decimal_value : (x : Float) → read_as (decimal negative whole places exponent) ≡ Ok x → (exponent ≡ []) × NearestTo binary64 negative (all_together whole places) (10 ^ length places) x
   unfolding read_as
   decimal_value x = go (within_reach whole places exponent) reachable
     where
       go : (t : Bool) → (T t → (length exponent ≡ 0) × (all_together whole places ≤ 1000000 * 10 ^ length places))
-          → cond t (Value (round binary64 negative (all_together whole places) (10 ^ length places))) BeyondReach ≡ Value x
+          → cond t (Ok (round binary64 negative (all_together whole places) (10 ^ length places))) (Err BeyondReach) ≡ Ok x
           → (exponent ≡ []) × NearestTo binary64 negative (all_together whole places) (10 ^ length places) x
-      go false h e = absurd (no_beyond x e)
+      go false h e = absurd (no_value BeyondReach x e)
       go true h e = (
         empty exponent (h tt).0,
         subst (λ (y : Float). NearestTo binary64 negative (all_together whole places) (10 ^ length places) y) (same_value _ x e) (near (h tt).1),
       )
 
 -- ---- the theorem
-pub value_is_nearest : (s : List ℕ) (x : Float) → number_of s ≡ Value x → NearestOfText s x
+pub value_is_nearest : (s : List ℕ) (x : Float) → number_of s ≡ Ok x → NearestOfText s x
 unfolding number_of read_as
 value_is_nearest s x e = spelling (spelling_of s) refl e
   where
-    spelling : (p : Spelling) → spelling_of s ≡ p → read_as p ≡ Value x → NearestOfText s x
-    spelling outside q r = absurd (no_outside x r)
-    spelling word q r = absurd (no_beyond x r)
+    spelling : (p : Spelling) → spelling_of s ≡ p → read_as p ≡ Ok x → NearestOfText s x
+    spelling outside q r = absurd (no_value OutsideGrammar x r)
+    spelling word q r = absurd (no_value BeyondReach x r)
     spelling (decimal negative whole places exponent) q r =
         let w = decimal_value negative whole places exponent x r in
         record { negative = negative; whole = whole; places = places; spelled = q ∙ ap (λ (l : List ℕ). decimal negative whole places l) w.0; nearest = w.1 }
 
 -- so it is a number
-pub value_is_a_number : (s : List ℕ) (x : Float) → number_of s ≡ Value x → T (not (is_nan x))
+pub value_is_a_number : (s : List ℕ) (x : Float) → number_of s ≡ Ok x → T (not (is_nan x))
 unfolding is_nan
 value_is_a_number s x e = let w = value_is_nearest s x e in a_number binary64 w.negative (all_together w.whole w.places) (10 ^ length w.places) x w.nearest
   where

@@ -11,13 +11,14 @@ use lib.Dec.{T}
 use lib.IntN.{pos}
 use lib.ListN.{length}
 use lib.Ieee.{Float, nan, inf, fin, binary64, round, fits, up, down}
-use Rattle.numbers.specs.declared.reading.Number.TheVariants.{BeyondReach, Value}
+use Rattle.std.specs.Prelude.{Ok, Err}
+use Rattle.numbers.specs.declared.reading.NumberError.TheVariants.{BeyondReach}
 use Rattle.numbers.specs.Grammar.{decimal}
 use Rattle.numbers.specs.Nearest.{dist, NearestTo}
 use Rattle.numbers.specs.Reading.{all_together, within_reach, read_as, number_of}
 use Rattle.numbers.specs.Rounding.{printable}
 use Rattle.numbers.proofs.PowerLaws.{ten_positive}
-use Rattle.numbers.proofs.ValueIsNearest.{no_beyond, reachable, value_is_nearest}
+use Rattle.numbers.proofs.ValueIsNearest.{no_value, reachable, value_is_nearest}
 
 -- ---- no farther from num / den than a million is, and that is on the far side
 not_past : (a b q p : ℕ) → a ≤ q → p ≡ q - a → dist a b ≤ p → b ≤ q
@@ -55,17 +56,17 @@ nearest_printable s num den (inf t) some h n = absurd n
 nearest_printable s num den (fin t m e) some h n = le-leb (m * up e) (1000000 * down e) (within num den (m * up e) (down e) some h (n.1.closest 15625 (pos 6) (a_million s)))
 
 -- ---- only a decimal within reach has a value
-in_reach : (negative : Bool) (whole places : List ℕ) (x : Float) → read_as (decimal negative whole places []) ≡ Value x → all_together whole places ≤ 1000000 * 10 ^ length places
+in_reach : (negative : Bool) (whole places : List ℕ) (x : Float) → read_as (decimal negative whole places []) ≡ Ok x → all_together whole places ≤ 1000000 * 10 ^ length places
 unfolding read_as
 in_reach negative whole places x = go (within_reach whole places []) (λ t. (reachable negative whole places [] t).1)
   where
-    go : (t : Bool) → (T t → all_together whole places ≤ 1000000 * 10 ^ length places) → cond t (Value (round binary64 negative (all_together whole places) (10 ^ length places))) BeyondReach ≡ Value x
+    go : (t : Bool) → (T t → all_together whole places ≤ 1000000 * 10 ^ length places) → cond t (Ok (round binary64 negative (all_together whole places) (10 ^ length places))) (Err BeyondReach) ≡ Ok x
         → all_together whole places ≤ 1000000 * 10 ^ length places
     go true h e = h tt
-    go false h e = absurd (no_beyond x e)
+    go false h e = absurd (no_value BeyondReach x e)
 
 -- ---- the theorem
-pub value_is_printable : (s : List ℕ) (x : Float) → number_of s ≡ Value x → printable x ≡ true
+pub value_is_printable : (s : List ℕ) (x : Float) → number_of s ≡ Ok x → printable x ≡ true
 unfolding number_of
 value_is_printable s x e =
     let w = value_is_nearest s x e in

@@ -1,30 +1,16 @@
 -- A walk over digits: what has been read so far, what a digit adds to it, and what is known where no digit follows.
 use mathlib.Core.Path.{◌≡◌, refl, sym, ap, ◌∙◌}
 use mathlib.Core.List.{List, ◌∷◌}
-use mathlib.Core.Bool.{Bool, true, false, ◌&&◌, cond, and-false}
+use mathlib.Core.Bool.{Bool, true, cond}
 use Prim.Native.Nat.{ℕ, suc, ◌+◌, ◌-◌, ◌*◌, ◌^◌, ◌≤◌, ◌<◌}
 use native.Mathlib.Numerals.{add-one}
 use native.Mathlib.Omega.{arith}
-use lib.Dec.{leb}
 use lib.ListN.{length, get_or, take, drop}
 use lib.Seq.{drop-cons}
-use borrow.Author.Tests.{le-leb, lt-leb}
 use Rattle.ascii.specs.Digits.{is_digit, digit_of, digit_run, number_from}
-use Rattle.ascii.proofs.DigitLaws.{run_more}
+use Rattle.ascii.proofs.DigitLaws.{digit_below, run_more}
 use Rattle.numbers.specs.Grammar.{digits}
 use Rattle.numbers.proofs.PowerLaws.{ten_next}
-
--- ---- a byte by its two tests
-pub is_digit_lem : (b : ℕ) → 48 ≤ b → b ≤ 57 → is_digit b ≡ true
-is_digit_lem b h k = simp (le-leb 48 b h, le-leb b 57 k)
-
-pub below_digits : (b : ℕ) → b < 48 → is_digit b ≡ false
-below_digits b h = simp (lt-leb 48 b h)
-
-pub above_digits : (b : ℕ) → 57 < b → is_digit b ≡ false
-above_digits b h = ap (λ (t : Bool). leb 48 b && t) (lt-leb b 57 h) ∙ and-false (leb 48 b)
-
--- ---- the walk
 
 -- of the digits from index from on, those before index i have been read after n, and the others are still to be read after number
 pub record Walking (s : List ℕ) (from n number i : ℕ) : Type 0 where
@@ -42,18 +28,17 @@ module _ (s : List ℕ) (from n : ℕ) where
   pub walk_begins : from ≤ length s → n < 10 ^ from → Walking s from n n from
   walk_begins h k = record { writes = refl; runs = refl; small = k; inside = h }
 
-  pub walk_on : (number i : ℕ) → Walking s from n number i → i < length s → 48 ≤ get_or s i 0 → get_or s i 0 ≤ 57 → Walking s from n (number * 10 + (get_or s i 0 - 48)) (i + 1)
+  pub walk_on : (number i : ℕ) → Walking s from n number i → i < length s → is_digit (get_or s i 0) ≡ true → Walking s from n (number * 10 + (get_or s i 0 - 48)) (i + 1)
   unfolding number_from
-  walk_on number i w h lo hi =
+  walk_on number i w h digit =
       let b = get_or s i 0 in
-      let digit : is_digit b ≡ true = is_digit_lem b lo hi in
       let counts : digit_of b ≡ b - 48 = ap (λ (t : Bool). cond t (b - 48) 0) digit in
       let more : digit_run (drop i s) ≡ suc (digit_run (drop (i + 1) s)) = run_more s i h digit in
       let next : 10 ^ (i + 1) ≡ 10 ^ i * 10 = ten_next i in
       record {
         writes = w.writes ∙ ap (λ (l : List ℕ). number_from number l) (digits_more s i h digit) ∙ ap (λ (d : ℕ). number_from (number * 10 + d) (digits (drop (i + 1) s))) counts;
         runs = w.runs ∙ omega arith;
-        small = omega (arith, w.small);
+        small = omega (arith, w.small, digit_below b, counts);
         inside = omega arith;
       }
 

@@ -9,42 +9,18 @@ use crate::rounding::{PLACES, UNITS_IN_ONE, is_negative, is_printable, units};
 pub(crate) fn digit_count(n: u64) -> usize
     ensures { result ≡ digit_count n }
 {
-    match n {
-        ..=9 => 1,
-        ..=99 => 2,
-        ..=999 => 3,
-        ..=9_999 => 4,
-        ..=99_999 => 5,
-        ..=999_999 => 6,
-        ..=9_999_999 => 7,
-        ..=99_999_999 => 8,
-        ..=999_999_999 => 9,
-        ..=9_999_999_999 => 10,
-        ..=99_999_999_999 => 11,
-        ..=999_999_999_999 => 12,
-        ..=9_999_999_999_999 => 13,
-        ..=99_999_999_999_999 => 14,
-        ..=999_999_999_999_999 => 15,
-        ..=9_999_999_999_999_999 => 16,
-        ..=99_999_999_999_999_999 => 17,
-        ..=999_999_999_999_999_999 => 18,
-        ..=9_999_999_999_999_999_999 => 19,
-        _ => 20,
+    match n.checked_ilog10() {
+        Some(power) => power as usize + 1,
+        None => 1,
     }
 }
 
-fn sign_length(negative: bool) -> usize
-    ensures { result ≡ length (sign negative) }
-{
-    if negative { 1 } else { 0 }
-}
-
-// A sign or none, a whole number of so many digits, a point and the places.
+// A sign or none is one byte or none, then comes a whole number of so many digits, a point and the places.
 pub(crate) fn fixed_length(negative: bool, count: usize) -> usize
     requires { count ≤ 20 }
     ensures { result ≡ length (sign negative) + count + 1 + 3 }
 {
-    sign_length(negative) + count + 1 + PLACES
+    usize::from(negative) + count + 1 + PLACES
 }
 
 // How many bytes a whole number's text has.

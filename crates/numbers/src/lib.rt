@@ -9,6 +9,6 @@ mod rounding;
 mod walking;
 
 pub use lengths::{thousandths_length, whole_length};
-pub use printing::{Printed, write_thousandths, write_whole};
-pub use reading::{Number, read_number};
+pub use printing::{PrintError, write_thousandths, write_whole};
+pub use reading::{NumberError, read_number};
 pub use rounding::is_printable;

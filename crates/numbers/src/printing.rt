@@ -1,19 +1,28 @@
 // A number's text put at a place of a lent buffer: a whole number's digits, or a double's sign, whole number, point and places.
 ghost use Rattle.std.specs.Prelude.{◌≡◌, ◌∷◌, ◌++◌, ◌+◌, ◌≤◌, length};
 ghost use Rattle.ascii.specs.Output.{Stored, placed_of, buffer_after};
+ghost use Rattle.numbers.specs.declared.printing.PrintError.TheVariants.{NoRoom};
 ghost use Rattle.numbers.specs.Printing.{last_digits, digit_count, sign, fixed_text};
 ghost use Rattle.numbers.specs.Writing.{printed_of, after_printing};
 
 use crate::lengths::{digit_count, fixed_length};
 use crate::rounding::{PLACES, UNITS_IN_ONE, is_negative, is_printable, units};
-use ascii::Placed;
+use ascii::NoRoom;
 
-// What became of a double's text.
+// Why a double's text was not put. The buffer is as it was.
 #[derive(Clone, Copy)]
-pub enum Printed {
-    // It isn't finite or is beyond 1,000,000 in magnitude: it has no text, and the buffer is as it was.
+pub enum PrintError {
+    // It isn't finite or is beyond 1,000,000 in magnitude: it has no text.
     BeyondReach,
-    Put(Placed),
+    NoRoom(NoRoom),
+}
+
+impl From<NoRoom> for PrintError {
+    ghost from_gives = { λ no_room e. e ≡ NoRoom no_room };
+
+    fn from(no_room: NoRoom) -> PrintError {
+        PrintError::NoRoom(no_room)
+    }
 }
 
 // The last count digits of n, from the right, so that each costs a division by ten alone.
@@ -22,24 +31,22 @@ fn put_digits(out: &mut [u8], at: usize, count: usize, n: u64) -> usize
     ensures { Stored out.old at (last_digits count n) out.new result }
 {
     let mut rest = n;
-    let mut left = count;
-    while 0 < left {
-        left -= 1;
-        out[at + left] = b'0' + (rest % 10) as u8;
-        rest = rest / 10;
+    for place in (0..count).rev() {
+        out[at + place] = b'0' + (rest % 10) as u8;
+        rest /= 10;
     }
     at + count
 }
 
 // Puts a whole number's digits, with no zero in front, into the buffer from index at on.
-pub fn write_whole(out: &mut [u8], at: usize, n: u64) -> Placed
+pub fn write_whole(out: &mut [u8], at: usize, n: u64) -> Result<usize, NoRoom>
     ensures { (result ≡ placed_of out.old at (last_digits (digit_count n) n)) × (out.new ≡ buffer_after out.old at (last_digits (digit_count n) n)) }
 {
     let count = digit_count(n);
     if !ascii::fits_at(out.len(), at, count) {
-        return Placed::NoRoom(count);
+        return Err(NoRoom { needed: count });
     }
-    Placed::Next(put_digits(out, at, count, n))
+    Ok(put_digits(out, at, count, n))
 }
 
 fn put_sign(out: &mut [u8], at: usize, negative: bool) -> usize
@@ -65,26 +72,26 @@ fn put_parts(out: &mut [u8], at: usize, negative: bool, count: usize, whole: u64
 }
 
 // Puts n units of the last place, with a sign or not, where they fit.
-fn put_fixed(out: &mut [u8], at: usize, negative: bool, n: u64) -> Placed
+fn put_fixed(out: &mut [u8], at: usize, negative: bool, n: u64) -> Result<usize, NoRoom>
     ensures { (result ≡ placed_of out.old at (fixed_text 3 negative n)) × (out.new ≡ buffer_after out.old at (fixed_text 3 negative n)) }
 {
     let whole = n / UNITS_IN_ONE;
     let count = digit_count(whole);
     let length = fixed_length(negative, count);
     if !ascii::fits_at(out.len(), at, length) {
-        return Placed::NoRoom(length);
+        return Err(NoRoom { needed: length });
     }
-    Placed::Next(put_parts(out, at, negative, count, whole, n))
+    Ok(put_parts(out, at, negative, count, whole, n))
 }
 
 // Puts a double's text with three places into the buffer from index at on.
-pub fn write_thousandths(out: &mut [u8], at: usize, x: f64) -> Printed
+pub fn write_thousandths(out: &mut [u8], at: usize, x: f64) -> Result<usize, PrintError>
     ensures { (result ≡ printed_of 3 x out.old at) × (out.new ≡ after_printing 3 x out.old at) }
 {
     if !is_printable(x) {
-        return Printed::BeyondReach;
+        return Err(PrintError::BeyondReach);
     }
     let negative = is_negative(x);
     let n = units(x);
-    Printed::Put(put_fixed(out, at, negative, n))
+    Ok(put_fixed(out, at, negative, n)?)
 }

@@ -2,7 +2,7 @@
 ghost use Rattle.std.specs.Prelude.{◌≡◌, [], ◌*◌, ◌^◌, ◌≤◌, ◌<◌, leb, length};
 ghost use Rattle.std.specs.Float.{binary64};
 ghost use Rattle.std.specs.Float.Ieee.{round};
-ghost use Rattle.numbers.specs.Grammar.{decimal, is_exponent_letter, is_word, is_exponent, parts, after_whole, unsigned};
+ghost use Rattle.numbers.specs.Grammar.{decimal, is_word, is_exponent, parts, after_whole, unsigned};
 ghost use Rattle.numbers.specs.Limits.{farthest};
 ghost use Rattle.numbers.specs.Reading.{value_of, read_as, number_of};
 
@@ -10,44 +10,30 @@ use crate::powers::power_of_ten;
 use crate::walking::walk_digits;
 
 #[derive(Clone, Copy)]
-pub enum Number {
+pub enum NumberError {
     OutsideGrammar,
     BeyondReach,
-    Value(f64),
 }
 
 const MOST_DIGITS: usize = 15;
 
 const FARTHEST: u64 = 1_000_000;
 
-fn is_exponent_letter(b: u8) -> bool
-    ensures { result ≡ is_exponent_letter b }
-{
-    match b {
-        b'e' | b'E' => true,
-        _ => false,
-    }
-}
-
 fn is_word(s: &[u8]) -> bool
     ensures { result ≡ is_word s.now }
 {
-    if ascii::eq_ignore_ascii_case(s, b"inf") {
-        return true;
-    }
-    if ascii::eq_ignore_ascii_case(s, b"infinity") {
-        return true;
-    }
-    ascii::eq_ignore_ascii_case(s, b"nan")
+    ascii::eq_ignore_ascii_case(s, b"inf")
+        || ascii::eq_ignore_ascii_case(s, b"infinity")
+        || ascii::eq_ignore_ascii_case(s, b"nan")
 }
 
 fn is_exponent(s: &[u8]) -> bool
     ensures { result ≡ is_exponent s.now }
 {
-    if !is_exponent_letter(ascii::byte_at(s, 0)) {
-        return false;
+    match s {
+        [b'e' | b'E', power @ ..] => ascii::all_digits(ascii::after_sign(power)),
+        _ => false,
     }
-    ascii::all_digits(ascii::after_sign(&s[1..]))
 }
 
 // Both whole numbers are exact as doubles, so that one division is the nearest double to their fraction.
@@ -65,78 +51,71 @@ fn is_near(n: u64, places: usize, p: u64) -> bool
     ensures { result ≡ leb n (farthest * 10 ^ places) }
 {
     // so many places of 15 digits leave at most six before the point, and FARTHEST * p could wrap
-    if 9 <= places {
-        return true;
-    }
-    n <= FARTHEST * p
+    9 <= places || n <= FARTHEST * p
 }
 
 // What at most 15 digits are that write n without their point, so many of them places.
-fn valued(negative: bool, n: u64, places: usize) -> Number
+fn valued(negative: bool, n: u64, places: usize) -> Result<f64, NumberError>
     requires { (n < 1000000000000000) × (places ≤ 15) }
     ensures { result ≡ value_of negative n places }
 {
     let p = power_of_ten(places);
     if is_near(n, places, p) {
-        Number::Value(quotient(negative, n, p))
+        Ok(quotient(negative, n, p))
     } else {
-        Number::BeyondReach
+        Err(NumberError::BeyondReach)
     }
 }
 
 // The digits before the point and those after it.
-fn read_decimal(negative: bool, whole: &[u8], places: &[u8]) -> Number
+fn read_decimal(negative: bool, whole: &[u8], places: &[u8]) -> Result<f64, NumberError>
     ensures { result ≡ read_as (decimal negative whole.now places.now []) }
 {
-    if MOST_DIGITS < whole.len() {
-        return Number::BeyondReach;
-    }
-    if MOST_DIGITS - whole.len() < places.len() {
-        return Number::BeyondReach;
+    if MOST_DIGITS < whole.len() || MOST_DIGITS - whole.len() < places.len() {
+        return Err(NumberError::BeyondReach);
     }
     let n = ascii::number_from(ascii::number_from(0, whole), places);
     valued(negative, n, places.len())
 }
 
-fn read_parts(negative: bool, whole: &[u8], places: &[u8], rest: &[u8]) -> Number
+fn read_parts(negative: bool, whole: &[u8], places: &[u8], rest: &[u8]) -> Result<f64, NumberError>
     ensures { result ≡ read_as (parts negative whole.now places.now rest.now) }
 {
     if whole.len() + places.len() == 0 {
-        return Number::OutsideGrammar;
+        return Err(NumberError::OutsideGrammar);
     }
-    if rest.len() == 0 {
+    if rest.is_empty() {
         return read_decimal(negative, whole, places);
     }
     if is_exponent(rest) {
-        Number::BeyondReach
+        Err(NumberError::BeyondReach)
     } else {
-        Number::OutsideGrammar
+        Err(NumberError::OutsideGrammar)
     }
 }
 
-fn read_after_whole(negative: bool, whole: &[u8], rest: &[u8]) -> Number
+fn read_after_whole(negative: bool, whole: &[u8], rest: &[u8]) -> Result<f64, NumberError>
     ensures { result ≡ read_as (after_whole negative whole.now rest.now) }
 {
-    if ascii::byte_at(rest, 0) == b'.' {
-        let t = &rest[1..];
-        let n = ascii::count_digits(t);
-        return read_parts(negative, whole, &t[0..n], &t[n..]);
-    }
-    read_parts(negative, whole, &rest[0..0], rest)
+    let Some(behind) = rest.strip_prefix(b".") else {
+        return read_parts(negative, whole, &[], rest);
+    };
+    let (places, rest) = behind.split_at(ascii::count_digits(behind));
+    read_parts(negative, whole, places, rest)
 }
 
-fn read_unsigned(negative: bool, s: &[u8]) -> Number
+fn read_unsigned(negative: bool, s: &[u8]) -> Result<f64, NumberError>
     ensures { result ≡ read_as (unsigned negative s.now) }
 {
     if is_word(s) {
-        return Number::BeyondReach;
+        return Err(NumberError::BeyondReach);
     }
-    let n = ascii::count_digits(s);
-    read_after_whole(negative, &s[0..n], &s[n..])
+    let (whole, rest) = s.split_at(ascii::count_digits(s));
+    read_after_whole(negative, whole, rest)
 }
 
 // The same in one walk over what nearly every number is: digits, or digits, a point and digits or none.
-fn read_short(negative: bool, s: &[u8]) -> Number
+fn read_short(negative: bool, s: &[u8]) -> Result<f64, NumberError>
     requires { length s.now ≤ 15 }
     ensures { result ≡ read_as (unsigned negative s.now) }
 {
@@ -160,7 +139,7 @@ fn read_short(negative: bool, s: &[u8]) -> Number
 }
 
 // What a text is as a number.
-pub fn read_number(s: &[u8]) -> Number
+pub fn read_number(s: &[u8]) -> Result<f64, NumberError>
     ensures { result ≡ number_of s.now }
 {
     let negative = ascii::byte_at(s, 0) == b'-';

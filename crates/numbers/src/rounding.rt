@@ -4,6 +4,8 @@ ghost use Rattle.std.specs.Float.Ieee.Nearest.{closest};
 ghost use Rattle.numbers.specs.Bits.{significand_of, exponent_of};
 ghost use Rattle.numbers.specs.Rounding.{printable, units_of, is_negative};
 
+use std::cmp::Ordering;
+
 // The places that a double is printed with, and how many units of the last one are in 1.
 pub(crate) const PLACES: usize = 3;
 
@@ -18,10 +20,7 @@ const LEADING: u64 = 4503599627370496;
 pub fn is_printable(x: f64) -> bool
     ensures { result ≡ printable x }
 {
-    if x <= 1000000.0 {
-        return -1000000.0 <= x;
-    }
-    false
+    x <= 1000000.0 && -1000000.0 <= x
 }
 
 // A double's magnitude is its significand times 2 to its exponent, over 2 ^ 1074.
@@ -31,19 +30,17 @@ fn significand(bits: u64) -> u64
     let field = bits % SIGN / LEADING;
     let fraction = bits % LEADING;
     if field == 0 {
-        return fraction;
+        fraction
+    } else {
+        LEADING + fraction
     }
-    LEADING + fraction
 }
 
 fn exponent(bits: u64) -> u64
     ensures { result ≡ exponent_of bits }
 {
     let field = bits % SIGN / LEADING;
-    if field == 0 {
-        return 0;
-    }
-    field - 1
+    field.saturating_sub(1)
 }
 
 // n / 2 ^ k to the nearest whole number, ties to even.
@@ -54,13 +51,11 @@ fn nearest_shifted(n: u64, k: u64) -> u64
     let d = 1u64 << k;
     let q = n >> k;
     let r = n - (q << k);
-    if r < d - r {
-        return q;
+    match r.cmp(&(d - r)) {
+        Ordering::Less => q,
+        Ordering::Greater => q + 1,
+        Ordering::Equal => q + q % 2,
     }
-    if d - r < r {
-        return q + 1;
-    }
-    q + q % 2
 }
 
 // The magnitude in units of the last place.

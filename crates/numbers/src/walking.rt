@@ -17,26 +17,15 @@ pub(crate) fn walk_digits(s: &[u8], from: usize, n: u64) -> Walked
     ensures number_bound { (result.number < 10 ^ result.end) × (result.end ≤ length s.now) }
 {
     let mut number = n;
-    let mut i = from;
-    while i < s.len() {
+    for i in from..s.len() {
         let b = s[i];
-        if b < b'0' {
-            return Walked {
-                number: number,
-                end: i,
-            };
-        }
-        if b'9' < b {
-            return Walked {
-                number: number,
-                end: i,
-            };
+        if !b.is_ascii_digit() {
+            return Walked { number, end: i };
         }
         number = number * 10 + (b - b'0') as u64;
-        i += 1;
     }
     Walked {
-        number: number,
-        end: i,
+        number,
+        end: s.len(),
     }
 }

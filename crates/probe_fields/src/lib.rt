@@ -3,5 +3,4 @@
 
 mod name;
 mod number;
-mod placed;
 mod token;

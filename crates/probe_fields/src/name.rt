@@ -5,34 +5,21 @@ ghost use Rattle.names.specs.Packing.{packed};
 ghost use Rattle.names.specs.Table.{resolve_of};
 ghost use Rattle.probe_fields.specs.Names.{code_of, canonical_of};
 
-use names::Resolved;
-
-fn code(r: Resolved) -> u8
-    ensures { result ≡ code_of r }
-{
-    match r {
-        Resolved::Standard { name: _, residue } => residue.code(),
-        Resolved::Unresolved => 0,
-    }
-}
-
-fn canonical(r: Resolved) -> u64
-    ensures { result ≡ canonical_of r }
-{
-    match r {
-        Resolved::Standard { name, residue: _ } => name,
-        Resolved::Unresolved => 0,
-    }
-}
-
 // The standard residue's code, 0 where the name is not resolved; the canonical name, packed.
 #[unsafe(no_mangle)]
 pub extern "C" fn probe_resolve(name: &[u8], canonical_name: &mut u64) -> u8
     ensures { (result ≡ code_of (resolve_of (packed name.now))) × (canonical_name.new ≡ canonical_of (resolve_of (packed name.now))) }
 {
-    let r = names::resolve(names::pack(name));
-    *canonical_name = canonical(r);
-    code(r)
+    match names::resolve(names::pack(name)) {
+        Some(found) => {
+            *canonical_name = found.name;
+            found.residue.code()
+        }
+        None => {
+            *canonical_name = 0;
+            0
+        }
+    }
 }
 
 // The element's number, 0 where the symbol is none.

@@ -4,53 +4,18 @@ ghost use Rattle.numbers.specs.Reading.{number_of};
 ghost use Rattle.numbers.specs.Writing.{printed_of, after_printing};
 ghost use Rattle.probe_fields.specs.Numbers.{kind_of, value_of, outcome_of, amount_of};
 
-use crate::placed::{amount_of_placed, outcome_of_placed};
-use numbers::{Number, Printed};
-
-fn kind(n: Number) -> u32
-    ensures { result ≡ kind_of n }
-{
-    match n {
-        Number::OutsideGrammar => 0,
-        Number::BeyondReach => 1,
-        Number::Value(_) => 2,
-    }
-}
-
-fn value(n: Number) -> f64
-    ensures { result ≡ value_of n }
-{
-    match n {
-        Number::OutsideGrammar => 0.0,
-        Number::BeyondReach => 0.0,
-        Number::Value(x) => x,
-    }
-}
-
-fn outcome(p: Printed) -> u32
-    ensures { result ≡ outcome_of p }
-{
-    match p {
-        Printed::BeyondReach => 0,
-        Printed::Put(placed) => outcome_of_placed(placed),
-    }
-}
-
-fn amount(p: Printed) -> usize
-    ensures { result ≡ amount_of p }
-{
-    match p {
-        Printed::BeyondReach => 0,
-        Printed::Put(placed) => amount_of_placed(placed),
-    }
-}
+use numbers::{NumberError, PrintError};
 
 // 0: outside the grammar; 1: beyond reach; 2: a value.
 #[unsafe(no_mangle)]
 pub extern "C" fn probe_number_kind(text: &[u8]) -> u32
     ensures { result ≡ kind_of (number_of text.now) }
 {
-    kind(numbers::read_number(text))
+    match numbers::read_number(text) {
+        Err(NumberError::OutsideGrammar) => 0,
+        Err(NumberError::BeyondReach) => 1,
+        Ok(_) => 2,
+    }
 }
 
 // The value; 0.0 where there is none.
@@ -58,7 +23,10 @@ pub extern "C" fn probe_number_kind(text: &[u8]) -> u32
 pub extern "C" fn probe_number_value(text: &[u8]) -> f64
     ensures { result ≡ value_of (number_of text.now) }
 {
-    value(numbers::read_number(text))
+    match numbers::read_number(text) {
+        Ok(x) => x,
+        Err(_) => 0.0,
+    }
 }
 
 // 0: beyond reach; 1: no room, and the bytes needed in number; 2: written, and the next place in number.
@@ -72,7 +40,18 @@ pub extern "C" fn probe_write_thousandths(
     ensures written { (result ≡ outcome_of (printed_of 3 x out.old at)) × (out.new ≡ after_printing 3 x out.old at) }
     ensures told { number.new ≡ amount_of (printed_of 3 x out.old at) }
 {
-    let p = numbers::write_thousandths(out, at, x);
-    *number = amount(p);
-    outcome(p)
+    match numbers::write_thousandths(out, at, x) {
+        Ok(next) => {
+            *number = next;
+            2
+        }
+        Err(PrintError::NoRoom(no_room)) => {
+            *number = no_room.needed;
+            1
+        }
+        Err(PrintError::BeyondReach) => {
+            *number = 0;
+            0
+        }
+    }
 }

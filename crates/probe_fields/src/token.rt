@@ -1,5 +1,6 @@
 // The tokens of a line, what is asked of one, and a name's quoting, through C conventions.
 ghost use Rattle.std.specs.Prelude.{◌≡◌, length};
+ghost use Rattle.std.specs.Option.{unwrap_or};
 ghost use Rattle.std.proofs.lemmas.List.Edits.{sets};
 ghost use Rattle.ascii.specs.Output.{placed_of, buffer_after};
 ghost use Rattle.tokens.specs.Items.{item_of};
@@ -7,8 +8,6 @@ ghost use Rattle.tokens.specs.Quote.{quote_of};
 ghost use Rattle.token_values.specs.Sequence.{sequence_of};
 ghost use Rattle.tokens.specs.Tokens.{token_at};
 ghost use Rattle.probe_fields.specs.Placings.{outcome_of_placed, amount_of_placed};
-
-use crate::placed::{amount_of_placed, outcome_of_placed};
 
 // The k-th token goes to the front of the cell as far as it fits; its true length, 0 where there is none.
 #[unsafe(no_mangle)]
@@ -21,9 +20,9 @@ pub extern "C" fn probe_token(line: &[u8], k: usize, cell: &mut [u8]) -> usize
 // Which of the fifteen items the token names, 15 where it names none.
 #[unsafe(no_mangle)]
 pub extern "C" fn probe_item(token: &[u8]) -> usize
-    ensures { result ≡ item_of token.now }
+    ensures { result ≡ unwrap_or (item_of token.now) 15 }
 {
-    tokens::item_of(token)
+    tokens::item_of(token).unwrap_or(15)
 }
 
 // The sequence number, moved up by 2 ^ 31.
@@ -41,7 +40,14 @@ pub extern "C" fn probe_quote(name: &[u8], out: &mut [u8], at: usize, number: &m
         × (out.new ≡ buffer_after out.old at (quote_of name.now)) }
     ensures told { number.new ≡ amount_of_placed (placed_of out.old at (quote_of name.now)) }
 {
-    let p = tokens::quote_string(name, out, at);
-    *number = amount_of_placed(p);
-    outcome_of_placed(p)
+    match tokens::quote_string(name, out, at) {
+        Ok(next) => {
+            *number = next;
+            2
+        }
+        Err(no_room) => {
+            *number = no_room.needed;
+            1
+        }
+    }
 }

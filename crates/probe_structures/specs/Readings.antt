@@ -1,5 +1,5 @@
 -- What a reading answers, as a caller in another language gets it: ten numbers.
-use Rattle.std.specs.Prelude.{◌≡◌, List, [], ◌∷◌, ℕ}
+use Rattle.std.specs.Prelude.{◌≡◌, List, [], ◌∷◌, ℕ, Result, Ok, Err}
 use Rattle.std.proofs.lemmas.List.Edits.{sets}
 use Rattle.refusals.specs.Reasons.{number_of, detail_of}
 use Rattle.rows.specs.Settings.{assuming}
@@ -7,26 +7,25 @@ use Rattle.building.specs.declared.sites.Counts.{Counts}
 use Rattle.model.specs.Lent.{Lent, room_of}
 use Rattle.readings.specs.Reading.{answer_of, left_by}
 use Rattle.reader.specs.Reading.{read_of}
-use Rattle.readings.specs.declared.answers.Answer.{Answer}
-use Rattle.readings.specs.declared.answers.Answer.TheVariants.{Read, Refused}
+use Rattle.refusals.specs.declared.reasons.Refusal.{Refusal}
 
-abbrev pub number_in : Answer → ℕ
-number_in (Read counts) = 0
-number_in (Refused why) = number_of why.reason
+abbrev pub number_in : Result Counts Refusal → ℕ
+number_in (Ok counts) = 0
+number_in (Err why) = number_of why.reason
 
-abbrev pub line_in : Answer → ℕ
-line_in (Read counts) = 0
-line_in (Refused why) = why.line
+abbrev pub line_in : Result Counts Refusal → ℕ
+line_in (Ok counts) = 0
+line_in (Err why) = why.line
 
-abbrev pub detail_in : Answer → ℕ
-detail_in (Read counts) = 0
-detail_in (Refused why) = detail_of why.reason
+abbrev pub detail_in : Result Counts Refusal → ℕ
+detail_in (Ok counts) = 0
+detail_in (Err why) = detail_of why.reason
 
-abbrev pub counts_in : Answer → Counts
-counts_in (Read counts) = counts
-counts_in (Refused why) = record { chains = 0; residues = 0; atoms = 0; rows = 0; skipped = 0; outdone = 0; assumed = 0 }
+abbrev pub counts_in : Result Counts Refusal → Counts
+counts_in (Ok counts) = counts
+counts_in (Err why) = record { chains = 0; residues = 0; atoms = 0; rows = 0; skipped = 0; outdone = 0; assumed = 0 }
 
-abbrev pub numbers_of : Answer → List ℕ
+abbrev pub numbers_of : Result Counts Refusal → List ℕ
 numbers_of answer =
     let counts = counts_in answer in
     number_in answer ∷ line_in answer ∷ detail_in answer ∷ counts.chains ∷ counts.residues ∷ counts.atoms ∷ counts.rows ∷ counts.skipped

@@ -1,25 +1,24 @@
 -- What a writing answers, as a caller in another language gets it: three numbers.
-use Rattle.std.specs.Prelude.{◌≡◌, List, [], ◌∷◌, ℕ, length}
+use Rattle.std.specs.Prelude.{◌≡◌, List, [], ◌∷◌, ℕ, length, Result, Ok, Err}
 use Rattle.std.proofs.lemmas.List.Edits.{sets}
 use Rattle.refusals.specs.Reasons.{number_of, detail_of}
 use Rattle.model.specs.Lent.{Lent}
 use Rattle.writer.specs.Writing.{write_of, answer_of, left_by}
-use Rattle.writer.specs.declared.answers.Answer.{Answer}
-use Rattle.writer.specs.declared.answers.Answer.TheVariants.{Written, Refused}
+use Rattle.refusals.specs.declared.reasons.Reason.{Reason}
 
-abbrev pub number_in : Answer → ℕ
-number_in (Written n) = 0
-number_in (Refused why) = number_of why
+abbrev pub number_in : Result ℕ Reason → ℕ
+number_in (Ok n) = 0
+number_in (Err why) = number_of why
 
-abbrev pub detail_in : Answer → ℕ
-detail_in (Written n) = 0
-detail_in (Refused why) = detail_of why
+abbrev pub detail_in : Result ℕ Reason → ℕ
+detail_in (Ok n) = 0
+detail_in (Err why) = detail_of why
 
-abbrev pub written_in : Answer → ℕ
-written_in (Written n) = n
-written_in (Refused why) = 0
+abbrev pub written_in : Result ℕ Reason → ℕ
+written_in (Ok n) = n
+written_in (Err why) = 0
 
-abbrev pub numbers_of : Answer → List ℕ
+abbrev pub numbers_of : Result ℕ Reason → List ℕ
 numbers_of answer = number_in answer ∷ detail_in answer ∷ written_in answer ∷ []
 
 -- the numbers go to the front of their slice, as far as it reaches

@@ -7,42 +7,42 @@ ghost use Rattle.model.specs.Lent.{lent_of};
 ghost use Rattle.probe_structures.specs.Writings.{number_in, detail_in, written_in, numbers_of, WrittenInto};
 
 use chains::Chain;
-use field_slices::store_u64;
-use writer::Answer;
+use field_slices::store;
+use refusals::Reason;
 
-fn number_in(answer: Answer) -> u8
+fn number_in(answer: Result<usize, Reason>) -> u8
     ensures { result ≡ number_in answer }
 {
     match answer {
-        Answer::Written(_) => 0,
-        Answer::Refused(why) => why.number(),
+        Ok(_) => 0,
+        Err(why) => why.number(),
     }
 }
 
-fn detail_in(answer: Answer) -> usize
+fn detail_in(answer: Result<usize, Reason>) -> usize
     ensures { result ≡ detail_in answer }
 {
     match answer {
-        Answer::Written(_) => 0,
-        Answer::Refused(why) => why.detail(),
+        Ok(_) => 0,
+        Err(why) => why.detail(),
     }
 }
 
-fn written_in(answer: Answer) -> usize
+fn written_in(answer: Result<usize, Reason>) -> usize
     ensures { result ≡ written_in answer }
 {
     match answer {
-        Answer::Written(n) => n,
-        Answer::Refused(_) => 0,
+        Ok(n) => n,
+        Err(_) => 0,
     }
 }
 
-fn put_numbers(numbers: &mut [u64], answer: Answer)
+fn put_numbers(numbers: &mut [u64], answer: Result<usize, Reason>)
     ensures { numbers.new ≡ sets numbers.old 0 (numbers_of answer) }
 {
-    store_u64(numbers, 0, number_in(answer) as u64);
-    store_u64(numbers, 1, detail_in(answer) as u64);
-    store_u64(numbers, 2, written_in(answer) as u64);
+    store(numbers, 0, number_in(answer) as u64);
+    store(numbers, 1, detail_in(answer) as u64);
+    store(numbers, 2, written_in(answer) as u64);
 }
 
 // Number and detail of a refusal, and how many bytes were written; zeros for what there is none of.

@@ -9,6 +9,7 @@ use Prim.Native.Nat.{ℕ, suc, ◌+◌, ◌≤◌, ◌<◌}
 use native.Mathlib.Omega.{arith}
 use lib.Dec.{ltb}
 use lib.ListN.{length}
+use Rattle.std.specs.Prelude.{Option, Some, None, Result, Ok, Err}
 use borrow.Author.Tests.{ltb-true, ltb-false}
 use Rattle.refusals.specs.Reasons.{at, number_of}
 use Rattle.refusals.specs.declared.reasons.Reason.{Reason}
@@ -17,8 +18,6 @@ use Rattle.refusals.specs.declared.reasons.Refusal.{Refusal}
 use Rattle.tokens.specs.Longest.{longest}
 use Rattle.rows.specs.Fields.{fields_of}
 use Rattle.rows.specs.Rules.{row_of}
-use Rattle.rows.specs.declared.rules.Row.{Row}
-use Rattle.rows.specs.declared.rules.Row.TheVariants.{Refused, Skipped, Kept}
 use Rattle.rows.specs.declared.rules.Site.{Site}
 use Rattle.rows.specs.declared.settings.Settings.{Settings}
 use Rattle.rows.proofs.RowsRefused.{rows_refused, row_numbers_lem}
@@ -30,7 +29,6 @@ use Rattle.line_states.specs.declared.reading.Does.TheVariants.{Nothing, TooMany
 use Rattle.model.specs.Fold.{State, start}
 use Rattle.model.specs.Room.{lacking}
 use Rattle.model.specs.Taken.{site}
-use Rattle.model.specs.declared.room.Lack.TheVariants.{Of}
 use Rattle.model.specs.declared.room.Room.{Room}
 use Rattle.acts.specs.Acts.{Asked}
 use Rattle.acts.specs.Earning.{ActEarns, refuses, lacks_room, FirstActToEarn}
@@ -45,7 +43,7 @@ use Rattle.reader.specs.Exact.{IsRow, Earns, too_long, headers, row_refused, no_
 
 -- ---- one line
 module _ (settings : Settings) (heads : Heads) (line : List ℕ) where
-  abbrev row : Row
+  abbrev row : Result (Option Site) Reason
   row = row_of settings (fields_of (moved_by heads line).heads.columns line)
 
   row_line : IsRow heads line → line_act settings heads line ≡ row_act row
@@ -56,17 +54,17 @@ module _ (settings : Settings) (heads : Heads) (line : List ℕ) where
     long : longest < length line → Asks (Refuse reason.LineTooLong)
     nothing : Asks Pass
     more : length line ≤ longest → (moved_by heads line).does ≡ TooManyHeaders → Asks (Refuse reason.TooManyHeaders)
-    row_fails : (why : Reason) → IsRow heads line → row ≡ Refused why → Asks (Refuse why)
+    row_fails : (why : Reason) → IsRow heads line → row ≡ Err why → Asks (Refuse why)
     row_skipped : Asks Skip
-    row_kept : (s : Site) → IsRow heads line → row ≡ Kept s → Asks (Keep s)
+    row_kept : (s : Site) → IsRow heads line → row ≡ Ok (Some s) → Asks (Keep s)
 
   asks : Asks (line_act settings heads line)
   asks = go (ltb longest (length line)) (ltb-true longest (length line)) (ltb-false longest (length line))
     where
-      by_row : IsRow heads line → (x : Row) → row ≡ x → Asks (row_act x)
-      by_row r (Refused why) k = row_fails why r k
-      by_row r Skipped k = row_skipped
-      by_row r (Kept s) k = row_kept s r k
+      by_row : IsRow heads line → (x : Result (Option Site) Reason) → row ≡ x → Asks (row_act x)
+      by_row r (Err why) k = row_fails why r k
+      by_row r (Ok None) k = row_skipped
+      by_row r (Ok (Some s)) k = row_kept s r k
 
       by_deed : length line ≤ longest → (d : Does) → (moved_by heads line).does ≡ d → Asks (act_by settings line (moved_by heads line).heads.columns d)
       by_deed h Nothing k = nothing
@@ -101,7 +99,7 @@ module _ (settings : Settings) (heads : Heads) (line : List ℕ) where
         go y (row_fails why r k) = row_refused y r k
     given why (lacks_room s kind e l) = go s (subst Asks e asks) l
       where
-        go : (s : Site) → Asks (Keep s) → lacking room st (site s) ≡ Of kind → Earned (at number (reason.NoRoom kind))
+        go : (s : Site) → Asks (Keep s) → lacking room st (site s) ≡ Some kind → Earned (at number (reason.NoRoom kind))
         go s (row_kept t r k) l = no_room s kind r k l
 
   -- no line refuses for what comes before or after all lines

@@ -6,9 +6,9 @@ use mathlib.Core.Option.{none, some}
 use Prim.Native.Nat.{ℕ, ◌≤◌, ◌<◌}
 use native.Mathlib.Omega.{arith}
 use lib.ListN.{length}
+use Rattle.std.specs.Prelude.{Some}
 use Rattle.lines.specs.Domain.{outside_of}
 use Rattle.lines.specs.Lines.{lines_of}
-use Rattle.lines.specs.declared.domain.Outside.TheVariants.{At}
 use Rattle.refusals.specs.Reasons.{at, number_of}
 use Rattle.refusals.specs.declared.reasons.Reason.TheVariants.{TextTooLong, OutsideDomain, UnknownResidue}
 use Rattle.refusals.specs.declared.reasons.Refusal.{Refusal}
@@ -40,7 +40,7 @@ module _ (settings : Settings) (room : Room) (text : List ℕ) where
   text_too_long = exact.text_too_long room text acts so
 
   -- ---- 2
-  pub outside_domain : (line byte : ℕ) → (read_of settings room text ≡ refused (at line (OutsideDomain byte))) ↔ ((length text ≤ largest) × (outside_of text ≡ At line byte))
+  pub outside_domain : (line byte : ℕ) → (read_of settings room text ≡ refused (at line (OutsideDomain byte))) ↔ ((length text ≤ largest) × (outside_of text ≡ Some (record { line = line; byte = byte })))
   outside_domain = exact.outside_domain room text acts so
 
   -- ---- 3 to 10
@@ -62,7 +62,7 @@ module _ (settings : Settings) (room : Room) (text : List ℕ) where
   -- ---- how a refused reading ends: each has one of these
   pub data RefusedSo : Refusal → Type 0 where
     long : largest < length text → RefusedSo (at 0 TextTooLong)
-    outside : {line byte : ℕ} → length text ≤ largest → outside_of text ≡ At line byte → RefusedSo (at line (OutsideDomain byte))
+    outside : {line byte : ℕ} → length text ≤ largest → outside_of text ≡ Some (record { line = line; byte = byte }) → RefusedSo (at line (OutsideDomain byte))
     of_line : {why : Refusal} → Admitted text → FirstToEarn settings room (lines_of text) why → RefusedSo why
     unknown : {st : State} {place : ℕ} → ReadInto settings room text st → unknown_in st.residues ≡ some place → RefusedSo (at 0 (UnknownResidue place))
 

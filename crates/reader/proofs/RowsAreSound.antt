@@ -4,18 +4,18 @@ use mathlib.Core.Path.{◌≡◌, refl, sym, subst}
 use mathlib.Core.Bool.{true}
 use mathlib.Core.List.{List, [], ◌∷◌, ◌++◌}
 use Prim.Native.Nat.{ℕ}
+use Rattle.std.specs.Prelude.{Option, Some, None, Result, Ok, Err}
+use Rattle.refusals.specs.declared.reasons.Reason.{Reason}
 use Rattle.ascii.specs.Bytes.{is_text_byte}
 use Rattle.ascii.specs.Lists.{every}
 use Rattle.lines.specs.Domain.{outside_of}
 use Rattle.lines.specs.Lines.{lines_of}
-use Rattle.lines.specs.declared.domain.Outside.TheVariants.{None}
 use Rattle.lines.proofs.LinesAreText.{lines_are_text}
 use Rattle.lines.proofs.NoneOutside.{in_domain_lem}
 use Rattle.rows.specs.Fields.{fields_of}
 use Rattle.rows.specs.Rules.{row_of}
 use Rattle.rows.specs.declared.columns.Columns.{Columns}
-use Rattle.rows.specs.declared.rules.Row.{Row}
-use Rattle.rows.specs.declared.rules.Row.TheVariants.{Refused, Skipped, Kept}
+use Rattle.rows.specs.declared.rules.Site.{Site}
 use Rattle.rows.specs.declared.settings.Settings.{Settings}
 use Rattle.line_states.specs.Heads.{start_heads}
 use Rattle.line_states.specs.States.{moved_by}
@@ -40,10 +40,10 @@ unfolding sites
 taken_sound settings columns line text Nothing l a = a
 taken_sound settings columns line text Does.Row l a = go (row_of settings (fields_of columns line)) refl
   where
-    go : (r : Row) → row_of settings (fields_of columns line) ≡ r → All Sound (sites (row_taken r ++ l))
-    go (Refused why) e = a
-    go Skipped e = a
-    go (Kept s) e = (sites_are_sound settings columns line s text e, a)
+    go : (r : Result (Option Site) Reason) → row_of settings (fields_of columns line) ≡ r → All Sound (sites (row_taken r ++ l))
+    go (Err why) e = a
+    go (Ok None) e = a
+    go (Ok (Some s)) e = (sites_are_sound settings columns line s text e, a)
 taken_sound settings columns line text TooManyHeaders l a = a
 
 -- ---- all lines

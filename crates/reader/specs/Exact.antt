@@ -1,12 +1,11 @@
 -- When each refusal is given: document 01's table as statements about a text.
-use Rattle.std.specs.Prelude.{◌≡◌, List, ◌∷◌, ◌++◌, ℕ, suc, ◌≤◌, ◌<◌, length}
+use Rattle.std.specs.Prelude.{◌≡◌, List, ◌∷◌, ◌++◌, ℕ, suc, ◌≤◌, ◌<◌, length, Some, Ok, Err}
 use Rattle.refusals.specs.Reasons.{at}
 use Rattle.refusals.specs.declared.details.RecordKind.{RecordKind}
 use Rattle.refusals.specs.declared.reasons.Reason.{Reason}
 use Rattle.refusals.specs.declared.reasons.Reason.TheVariants.{LineTooLong, TooManyHeaders, NoRoom}
 use Rattle.refusals.specs.declared.reasons.Refusal.{Refusal}
 use Rattle.tokens.specs.Longest.{longest}
-use Rattle.rows.specs.declared.rules.Row.TheVariants.{Refused, Kept}
 use Rattle.rows.specs.declared.rules.Site.{Site}
 use Rattle.rows.specs.Fields.{fields_of}
 use Rattle.rows.specs.Rules.{row_of}
@@ -18,7 +17,6 @@ use Rattle.line_states.specs.declared.reading.Does.{Does}
 use Rattle.model.specs.Fold.{State, start}
 use Rattle.model.specs.Room.{lacking}
 use Rattle.model.specs.Taken.{site}
-use Rattle.model.specs.declared.room.Lack.TheVariants.{Of}
 use Rattle.model.specs.declared.room.Room.{Room}
 use Rattle.acts.specs.Making.{going, made}
 use Rattle.readings.specs.Ends.{DoneInto}
@@ -33,10 +31,10 @@ pub record IsRow (heads : Heads) (line : List ℕ) : Type 0 where
 pub data Earns (settings : Settings) (room : Room) (number : ℕ) (heads : Heads) (st : State) (line : List ℕ) : Refusal → Type 0 where
   too_long : longest < length line → Earns settings room number heads st line (at number LineTooLong)
   headers : length line ≤ longest → (moved_by heads line).does ≡ Does.TooManyHeaders → Earns settings room number heads st line (at number TooManyHeaders)
-  row_refused : (why : Reason) → IsRow heads line → row_of settings (fields_of (moved_by heads line).heads.columns line) ≡ Refused why
+  row_refused : (why : Reason) → IsRow heads line → row_of settings (fields_of (moved_by heads line).heads.columns line) ≡ Err why
       → Earns settings room number heads st line (at number why)
-  no_room : (s : Site) (lack : RecordKind) → IsRow heads line → row_of settings (fields_of (moved_by heads line).heads.columns line) ≡ Kept s
-      → lacking room st (site s) ≡ Of lack → Earns settings room number heads st line (at number (NoRoom lack))
+  no_room : (s : Site) (lack : RecordKind) → IsRow heads line → row_of settings (fields_of (moved_by heads line).heads.columns line) ≡ Ok (Some s)
+      → lacking room st (site s) ≡ Some lack → Earns settings room number heads st line (at number (NoRoom lack))
 
 -- the first line that earns a refusal
 pub record FirstToEarn (settings : Settings) (room : Room) (lines : List (List ℕ)) (why : Refusal) : Type 0 where

@@ -9,10 +9,11 @@ use Prim.Native.Nat.{ℕ, ◌≤◌, ◌<◌}
 use native.Mathlib.Omega.{arith}
 use lib.Dec.{ltb}
 use lib.ListN.{length}
+use Rattle.std.specs.Prelude.{Some, None}
+use Rattle.std.specs.Prelude as std
 use borrow.Author.Tests.{ltb-true, ltb-false, lt-ltb, le-ltb}
 use Rattle.lines.specs.Domain.{outside_of}
 use Rattle.lines.specs.declared.domain.Outside.{Outside}
-use Rattle.lines.specs.declared.domain.Outside.TheVariants.{None, At}
 use Rattle.refusals.specs.Reasons.{at, number_of}
 use Rattle.refusals.specs.declared.reasons.Reason.TheVariants.{TextTooLong, OutsideDomain, UnknownResidue}
 use Rattle.refusals.specs.declared.reasons.Refusal.{Refusal}
@@ -40,7 +41,7 @@ of_act_lem so f = of_earned (all_after (λ (a : Asked). RefusesForItself a.act) 
 -- ---- how a reading ends
 pub data Ends (room : Room) (text : List ℕ) (acts : List Asked) : Reading → Type 0 where
   long : largest < length text → Ends room text acts (refused (at 0 TextTooLong))
-  outside : {line byte : ℕ} → length text ≤ largest → outside_of text ≡ At line byte → Ends room text acts (refused (at line (OutsideDomain byte)))
+  outside : {line byte : ℕ} → length text ≤ largest → outside_of text ≡ Some (record { line = line; byte = byte }) → Ends room text acts (refused (at line (OutsideDomain byte)))
   of_act : {why : Refusal} → Admitted text → FirstActToEarn room acts why → Ends room text acts (refused why)
   unknown : {st : State} {place : ℕ} → DoneInto room text acts st → unknown_in st.residues ≡ some place → Ends room text acts (refused (at 0 (UnknownResidue place)))
   whole : {st : State} → DoneInto room text acts st → unknown_in st.residues ≡ none → Ends room text acts (read (model_from st) (counts_of st))
@@ -80,9 +81,9 @@ module _ (room : Room) (text : List ℕ) (acts : List Asked) where
       by_acts a (going s) e = by_residues s (record { admitted = a; done = e }) (unknown_in s.residues) refl
       by_acts a (halted why) e = of_act a ((refused_exactly room acts why).0 e)
 
-      by_domain : length text ≤ largest → (o : Outside) → outside_of text ≡ o → Ends room text acts (after_domain room acts o)
+      by_domain : length text ≤ largest → (o : std.Option Outside) → outside_of text ≡ o → Ends room text acts (after_domain room acts o)
       by_domain h None e = by_acts (record { short = h; inside = e }) (made room start acts) refl
-      by_domain h (At line byte) e = outside h e
+      by_domain h (Some o) e = outside h e
 
       go : (t : Bool) → (t ≡ true → largest < length text) → (t ≡ false → length text ≤ largest) → Ends room text acts (cond t (refused (at 0 TextTooLong)) (after_domain room acts (outside_of text)))
       go true h k = long (h refl)
@@ -120,10 +121,10 @@ module _ (room : Room) (text : List ℕ) (acts : List Asked) where
         only (of_act a f) = absurd (omega (arith, (of_act_lem so f).0))
 
     -- ---- 2
-    pub outside_domain : (line byte : ℕ) → (reading_of room text acts ≡ refused (at line (OutsideDomain byte))) ↔ ((length text ≤ largest) × (outside_of text ≡ At line byte))
+    pub outside_domain : (line byte : ℕ) → (reading_of room text acts ≡ refused (at line (OutsideDomain byte))) ↔ ((length text ≤ largest) × (outside_of text ≡ Some (record { line = line; byte = byte })))
     outside_domain line byte = (λ e. only line byte (ends_at _ e), λ h. ends_so _ (outside h.0 h.1))
       where
-        only : (line byte : ℕ) → Ends room text acts (refused (at line (OutsideDomain byte))) → (length text ≤ largest) × (outside_of text ≡ At line byte)
+        only : (line byte : ℕ) → Ends room text acts (refused (at line (OutsideDomain byte))) → (length text ≤ largest) × (outside_of text ≡ Some (record { line = line; byte = byte }))
         only line byte (outside h o) = (h, o)
         only line byte (of_act a f) = absurd (omega (arith, (of_act_lem so f).0))
 

@@ -1,8 +1,7 @@
 -- How a reading ends: what 1 and 2 let pass, what is done to its end, and which refusals come of acts.
 use Prim.{Unit}
-use Rattle.std.specs.Prelude.{◌≡◌, List, ℕ, ◌≤◌, length}
+use Rattle.std.specs.Prelude.{◌≡◌, List, ℕ, ◌≤◌, length, None}
 use Rattle.lines.specs.Domain.{outside_of}
-use Rattle.lines.specs.declared.domain.Outside.TheVariants.{None}
 use Rattle.refusals.specs.Reasons.{number_of}
 use Rattle.refusals.specs.declared.reasons.Refusal.{Refusal}
 use Rattle.model.specs.Fold.{State, start}

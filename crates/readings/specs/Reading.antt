@@ -1,9 +1,8 @@
 -- What is read of a text that asks for these acts: the model in the lent slices, or a refusal. 1 and 2 precede all lines; then the first act that earns a refusal
 -- gives it; then 11.
-use Rattle.std.specs.Prelude.{cond, List, ℕ, ltb, length}
+use Rattle.std.specs.Prelude.{cond, List, ℕ, ltb, length, Option, Some, None, Result, Ok, Err}
 use Rattle.lines.specs.Domain.{outside_of}
 use Rattle.lines.specs.declared.domain.Outside.{Outside}
-use Rattle.lines.specs.declared.domain.Outside.TheVariants.{None, At}
 use Rattle.refusals.specs.Reasons.{at}
 use Rattle.refusals.specs.declared.reasons.Reason.TheVariants.{TextTooLong, OutsideDomain, UnknownResidue}
 use Rattle.refusals.specs.declared.reasons.Refusal.{Refusal}
@@ -15,7 +14,6 @@ use Rattle.model.specs.declared.room.Room.{Room}
 use Rattle.building.specs.declared.sites.Counts.{Counts}
 use Rattle.acts.specs.Acts.{Asked}
 use Rattle.acts.specs.Making.{Making, going, halted, made}
-use Rattle.readings.specs.declared.answers.Answer.{Answer}
 
 -- "Text at most 16,777,216 bytes"
 abbrev pub largest : ℕ
@@ -44,18 +42,18 @@ abbrev pub at_end : Making → Reading
 at_end (going st) = finished (counts_of st) (finished_of st)
 at_end (halted why) = refused why
 
-abbrev pub after_domain : Room → List Asked → Outside → Reading
+abbrev pub after_domain : Room → List Asked → Option Outside → Reading
 after_domain room acts None = at_end (made room start acts)
-after_domain room acts (At line byte) = refused (at line (OutsideDomain byte))
+after_domain room acts (Some o) = refused (at o.line (OutsideDomain o.byte))
 
 unfoldable pub reading_of : Room → List ℕ → List Asked → Reading
 reading_of room text acts = cond (ltb largest (length text)) (refused (at 0 TextTooLong)) (after_domain room acts (outside_of text))
 
 -- ---- what is answered, and what is left in the slices
 
-abbrev pub answer_of : Reading → Answer
-answer_of (read m counts) = Answer.Read counts
-answer_of (refused why) = Answer.Refused why
+abbrev pub answer_of : Reading → Result Counts Refusal
+answer_of (read m counts) = Ok counts
+answer_of (refused why) = Err why
 
 abbrev pub left_by : Lent → Reading → Lent
 left_by l (read m counts) = holding l m

@@ -1,34 +1,27 @@
 // What refuses a text before all lines: its length, then its first byte outside the domain.
 ghost use Rattle.std.specs.Prelude.{◌≡◌};
-ghost use Rattle.readings.specs.Closing.{halted_by, halted_early};
+ghost use Rattle.readings.specs.Closing.{halted_early};
 
-use acts::Halt;
-use lines::Outside;
+use lines::first_outside;
 use refusals::{Reason, Refusal};
 
 // The largest text.
 const LARGEST: usize = 16777216;
 
-fn halted_by(outside: Outside) -> Halt
-    ensures { result ≡ halted_by outside }
-{
-    match outside {
-        Outside::None => Halt::Going,
-        Outside::At(line, byte) => Halt::Refused(Refusal {
-            line: line,
-            reason: Reason::OutsideDomain { byte: byte },
-        }),
-    }
-}
-
-pub fn halted_early(text: &[u8]) -> Halt
+pub fn halted_early(text: &[u8]) -> Result<(), Refusal>
     ensures { result ≡ halted_early text.now }
 {
     if LARGEST < text.len() {
-        return Halt::Refused(Refusal {
+        return Err(Refusal {
             line: 0,
             reason: Reason::TextTooLong,
         });
     }
-    halted_by(lines::first_outside(text))
+    if let Some(outside) = first_outside(text) {
+        return Err(Refusal {
+            line: outside.line,
+            reason: Reason::OutsideDomain { byte: outside.byte },
+        });
+    }
+    Ok(())
 }

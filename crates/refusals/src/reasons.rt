@@ -35,7 +35,7 @@ impl Reason {
     {
         match self {
             Reason::TextTooLong => 1,
-            Reason::OutsideDomain { byte: _ } => 2,
+            Reason::OutsideDomain { .. } => 2,
             Reason::LineTooLong => 3,
             Reason::TooManyHeaders => 4,
             Reason::ColumnMissing(_) => 5,
@@ -44,10 +44,10 @@ impl Reason {
             Reason::BeyondReach(_) => 8,
             Reason::NameTooLong(_) => 9,
             Reason::NoRoom(_) => 10,
-            Reason::UnknownResidue { place: _ } => 11,
+            Reason::UnknownResidue { .. } => 11,
             Reason::NotWellFormed => 12,
-            Reason::CannotBeWritten { atom: _ } => 13,
-            Reason::OutputTooShort { needed: _ } => 14,
+            Reason::CannotBeWritten { .. } => 13,
+            Reason::OutputTooShort { .. } => 14,
         }
     }
 
@@ -55,20 +55,20 @@ impl Reason {
         ensures { result ≡ detail_of self }
     {
         match self {
-            Reason::TextTooLong => 0,
             Reason::OutsideDomain { byte } => byte as usize,
-            Reason::LineTooLong => 0,
-            Reason::TooManyHeaders => 0,
-            Reason::ColumnMissing(column) => column.number() as usize,
-            Reason::RowShort => 0,
-            Reason::OutsideGrammar(axis) => axis.number() as usize,
-            Reason::BeyondReach(quantity) => quantity.number() as usize,
-            Reason::NameTooLong(label) => label.number() as usize,
-            Reason::NoRoom(kind) => kind.number() as usize,
+            Reason::ColumnMissing(column) => column as usize,
+            Reason::OutsideGrammar(axis) => axis as usize,
+            Reason::BeyondReach(quantity) => quantity.number(),
+            Reason::NameTooLong(label) => label as usize,
+            Reason::NoRoom(kind) => kind as usize,
             Reason::UnknownResidue { place } => place,
-            Reason::NotWellFormed => 0,
             Reason::CannotBeWritten { atom } => atom,
             Reason::OutputTooShort { needed } => needed,
+            Reason::TextTooLong
+            | Reason::LineTooLong
+            | Reason::TooManyHeaders
+            | Reason::RowShort
+            | Reason::NotWellFormed => 0,
         }
     }
 }

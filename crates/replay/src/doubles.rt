@@ -13,10 +13,8 @@ fn digit_value(b: u8) -> u64
 
 fn bits_of(digits: &[u8]) -> u64 {
     let mut bits: u64 = 0;
-    let mut i = 0;
-    while i < 16 {
+    for i in 0..16 {
         bits = bits % 0x1000_0000_0000_0000 * 16 + digit_value(ascii::byte_at(digits, i));
-        i += 1;
     }
     bits
 }

@@ -15,63 +15,18 @@ mod say;
 mod texts_answered;
 mod tokens_answered;
 
-fn answer_numbers(rt: &impl Print, question: &[u8], text: &[u8]) -> io::Result<bool> {
-    if check::same(question, b"read") {
-        numbers_answered::read(rt, text)?;
-        return Ok(true);
-    }
-    if check::same(question, b"print") {
-        numbers_answered::print(rt, text)?;
-        return Ok(true);
-    }
-    Ok(false)
-}
-
-fn answer_tokens(rt: &impl Print, question: &[u8], text: &[u8]) -> io::Result<bool> {
-    if check::same(question, b"tokens") {
-        tokens_answered::tokens(rt, text)?;
-        return Ok(true);
-    }
-    if check::same(question, b"quote") {
-        tokens_answered::quote(rt, text)?;
-        return Ok(true);
-    }
-    if check::same(question, b"sequence") {
-        tokens_answered::sequence(rt, text)?;
-        return Ok(true);
-    }
-    Ok(false)
-}
-
-fn answer_names(rt: &impl Print, question: &[u8], text: &[u8]) -> io::Result<bool> {
-    if check::same(question, b"resolve") {
-        names_answered::resolve(rt, text)?;
-        return Ok(true);
-    }
-    if check::same(question, b"element") {
-        names_answered::element(rt, text)?;
-        return Ok(true);
-    }
-    Ok(false)
-}
-
-fn answer_texts(rt: &impl Print, question: &[u8], text: &[u8]) -> io::Result<bool> {
-    if check::same(question, b"structure") {
-        texts_answered::structure(rt, text)?;
-        return Ok(true);
-    }
-    Ok(false)
-}
-
 fn answer(rt: &impl Print, question: &[u8], text: &[u8]) -> io::Result<()> {
-    let answered = answer_numbers(rt, question, text)?
-        || answer_tokens(rt, question, text)?
-        || answer_names(rt, question, text)?
-        || answer_texts(rt, question, text)?;
-    if !answered {
-        say::say(rt, b"not a question")?;
+    match question {
+        b"read" => numbers_answered::read(rt, text),
+        b"print" => numbers_answered::print(rt, text),
+        b"tokens" => tokens_answered::tokens(rt, text),
+        b"quote" => tokens_answered::quote(rt, text),
+        b"sequence" => tokens_answered::sequence(rt, text),
+        b"resolve" => names_answered::resolve(rt, text),
+        b"element" => names_answered::element(rt, text),
+        b"structure" => texts_answered::structure(rt, text),
+        _ => say::say(rt, b"not a question"),
     }
-    Ok(())
 }
 
 // A line is a question, a blank, and the text that it is asked of.

@@ -1,6 +1,5 @@
 // Names: the canonical name and the standard residue that a name stands for, the element of a symbol.
 use crate::say::{say, say_number};
-use names::Resolved;
 use std::io;
 
 fn say_name(rt: &impl Print, packed: u64) -> io::Result<()> {
@@ -13,15 +12,12 @@ fn say_name(rt: &impl Print, packed: u64) -> io::Result<()> {
 }
 
 pub(crate) fn resolve(rt: &impl Print, name: &[u8]) -> io::Result<()> {
-    let r = names::resolve(names::pack(name));
-    match r {
-        Resolved::Standard { name, residue } => {
-            say_name(rt, name)?;
-            say(rt, b" ")?;
-            say_name(rt, residue.name())
-        }
-        Resolved::Unresolved => say(rt, b"unresolved"),
-    }
+    let Some(found) = names::resolve(names::pack(name)) else {
+        return say(rt, b"unresolved");
+    };
+    say_name(rt, found.name)?;
+    say(rt, b" ")?;
+    say_name(rt, found.residue.name())
 }
 
 pub(crate) fn element(rt: &impl Print, symbol: &[u8]) -> io::Result<()> {

@@ -6,12 +6,10 @@ pub(crate) fn end_of(text: &[u8], from: usize, byte: u8) -> usize
     requires { from ≤ length text.now }
     ensures { (from ≤ result) × (result ≤ length text.now) }
 {
-    let mut i = from;
-    while i < text.len() {
+    for i in from..text.len() {
         if text[i] == byte {
             return i;
         }
-        i += 1;
     }
-    i
+    text.len()
 }

@@ -1,6 +1,8 @@
 // What a model's records hold, a word and its fields to each.
 use crate::say::{say, say_bits, say_number};
-use field_slices::smaller;
+use building::Counts;
+use field_slices::entry_at;
+use model::{Atom, Records, Residue};
 use std::io;
 
 // The length of the name and the name.
@@ -42,76 +44,53 @@ fn say_chain(rt: &impl Print, name: u64) -> io::Result<()> {
     say_name(rt, name)
 }
 
-fn say_residue(
-    rt: &impl Print,
-    key: u64,
-    name: u64,
-    code: u8,
-    category: u8,
-    position: u8,
-) -> io::Result<()> {
+fn say_residue(rt: &impl Print, key: u64, residue: Residue) -> io::Result<()> {
     say(rt, b" residue")?;
     say_key(rt, key)?;
-    say_name(rt, name)?;
-    say_field(rt, code as u64)?;
-    say_field(rt, category as u64)?;
-    say_field(rt, position as u64)
+    say_name(rt, residue.name)?;
+    say_field(rt, residue.code as u64)?;
+    say_field(rt, residue.category as u64)?;
+    say_field(rt, residue.position as u64)
 }
 
-fn say_atom(
-    rt: &impl Print,
-    key: u64,
-    name: u64,
-    element: u8,
-    position: [f64; 3],
-) -> io::Result<()> {
+fn say_atom(rt: &impl Print, atom: Atom) -> io::Result<()> {
     say(rt, b" atom")?;
-    say_key(rt, key)?;
-    say_name(rt, name)?;
-    say_field(rt, element as u64)?;
-    say_double(rt, position[0])?;
-    say_double(rt, position[1])?;
-    say_double(rt, position[2])
+    say_key(rt, atom.key)?;
+    say_name(rt, atom.name)?;
+    say_field(rt, atom.element as u64)?;
+    say_double(rt, atom.position.x)?;
+    say_double(rt, atom.position.y)?;
+    say_double(rt, atom.position.z)
 }
 
-pub(crate) fn say_chains(rt: &impl Print, names: &[u64; 64], count: usize) -> io::Result<()> {
-    let mut i = 0;
-    while i < smaller(count, 64) {
-        say_chain(rt, names[i])?;
-        i += 1;
+fn say_chains(rt: &impl Print, names: &[u64], count: usize) -> io::Result<()> {
+    for name in names.iter().take(count) {
+        say_chain(rt, *name)?;
     }
     Ok(())
 }
 
-pub(crate) fn say_residues(
-    rt: &impl Print,
-    keys: &[u64; 64],
-    names: &[u64; 64],
-    codes: &[u8; 64],
-    categories: &[u8; 64],
-    positions: &[u8; 64],
-    count: usize,
-) -> io::Result<()> {
-    let mut i = 0;
-    while i < smaller(count, 64) {
-        say_residue(rt, keys[i], names[i], codes[i], categories[i], positions[i])?;
-        i += 1;
+fn say_residues(rt: &impl Print, records: Records<'_>, count: usize) -> io::Result<()> {
+    for i in 0..count {
+        say_residue(
+            rt,
+            entry_at(records.residue_keys, i, 0),
+            records.residue_at(i),
+        )?;
     }
     Ok(())
 }
 
-pub(crate) fn say_atoms(
-    rt: &impl Print,
-    keys: &[u64; 64],
-    names: &[u64; 64],
-    elements: &[u8; 64],
-    positions: &[[f64; 3]; 64],
-    count: usize,
-) -> io::Result<()> {
-    let mut i = 0;
-    while i < smaller(count, 64) {
-        say_atom(rt, keys[i], names[i], elements[i], positions[i])?;
-        i += 1;
+fn say_atoms(rt: &impl Print, records: Records<'_>, count: usize) -> io::Result<()> {
+    for i in 0..count {
+        say_atom(rt, records.atom_at(i))?;
     }
     Ok(())
+}
+
+// As many of each kind as were read.
+pub(crate) fn say_records(rt: &impl Print, records: Records<'_>, counts: Counts) -> io::Result<()> {
+    say_chains(rt, records.chains, counts.chains)?;
+    say_residues(rt, records, counts.residues)?;
+    say_atoms(rt, records, counts.atoms)
 }

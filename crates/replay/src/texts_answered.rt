@@ -1,9 +1,8 @@
 // Whole texts: the model that is read, or why the text is refused.
 use crate::escapes;
-use crate::records_said::{say_atoms, say_chains, say_residues};
+use crate::records_said::say_records;
 use crate::say::{say, say_number};
-use building::Counts;
-use readings::Answer;
+use model::{AtomsMut, Records, ResiduesMut};
 use refusals::Refusal;
 use std::io;
 
@@ -21,74 +20,36 @@ fn say_refusal(rt: &impl Print, why: Refusal) -> io::Result<()> {
     Ok(())
 }
 
-// The first word of the answer, and of a refusal all of it; the counts of the records to be told.
-fn say_answer(rt: &impl Print, answer: Answer) -> io::Result<Counts> {
-    match answer {
-        Answer::Read(counts) => {
-            say(rt, b"read")?;
-            Ok(counts)
-        }
-        Answer::Refused(why) => {
-            say_refusal(rt, why)?;
-            Ok(Counts {
-                chains: 0,
-                residues: 0,
-                atoms: 0,
-                rows: 0,
-                skipped: 0,
-                outdone: 0,
-                assumed: 0,
-            })
-        }
-    }
-}
-
 fn answer(rt: &impl Print, text: &[u8]) -> io::Result<()> {
-    let mut chains = [0u64; 64];
-    let mut residue_keys = [0u64; 64];
-    let mut residue_names = [0u64; 64];
-    let mut residue_codes = [0u8; 64];
-    let mut residue_categories = [0u8; 64];
-    let mut residue_positions = [0u8; 64];
-    let mut atom_keys = [0u64; 64];
-    let mut atom_names = [0u64; 64];
-    let mut elements = [0u8; 64];
-    let mut positions = [[0.0; 3]; 64];
-    let mut occupancies = [0.0; 64];
+    let mut chains = [0; 64];
+    let mut residues = ResiduesMut {
+        keys: &mut [0; 64],
+        names: &mut [0; 64],
+        codes: &mut [0; 64],
+        categories: &mut [0; 64],
+        positions: &mut [0; 64],
+    };
+    let mut atoms = AtomsMut {
+        keys: &mut [0; 64],
+        names: &mut [0; 64],
+        elements: &mut [0; 64],
+        positions: &mut [[0.0; 3]; 64],
+        occupancies: &mut [0.0; 64],
+    };
     let answer = reader::read_by_names(
         text,
         &mut chains,
-        &mut residue_keys,
-        &mut residue_names,
-        &mut residue_codes,
-        &mut residue_categories,
-        &mut residue_positions,
-        &mut atom_keys,
-        &mut atom_names,
-        &mut elements,
-        &mut positions,
-        &mut occupancies,
+        &mut residues,
+        &mut atoms,
         rows::assuming(),
     );
-    let counts = say_answer(rt, answer)?;
-    say_chains(rt, &chains, counts.chains)?;
-    say_residues(
-        rt,
-        &residue_keys,
-        &residue_names,
-        &residue_codes,
-        &residue_categories,
-        &residue_positions,
-        counts.residues,
-    )?;
-    say_atoms(
-        rt,
-        &atom_keys,
-        &atom_names,
-        &elements,
-        &positions,
-        counts.atoms,
-    )
+    match answer {
+        Ok(counts) => {
+            say(rt, b"read")?;
+            say_records(rt, Records::of_lent(&chains, &residues, &atoms), counts)
+        }
+        Err(why) => say_refusal(rt, why),
+    }
 }
 
 pub(crate) fn structure(rt: &impl Print, escaped: &[u8]) -> io::Result<()> {

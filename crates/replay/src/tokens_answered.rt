@@ -1,6 +1,5 @@
 // Tokens: what a line is split into, how a name is quoted, what sequence number a token writes.
 use crate::say::{say, say_number};
-use ascii::Placed;
 use std::io;
 
 // The k-th token as LENGTH:TOKEN, after a blank where it is not the first; whether there is one.
@@ -23,16 +22,17 @@ fn say_token(rt: &impl Print, line: &[u8], k: usize) -> io::Result<bool> {
 
 // Each token of the line, which has no more of them than bytes.
 pub(crate) fn tokens(rt: &impl Print, line: &[u8]) -> io::Result<()> {
-    let mut k = 0;
-    while k <= line.len() && say_token(rt, line, k)? {
-        k += 1;
+    for k in 0..=line.len() {
+        if !say_token(rt, line, k)? {
+            break;
+        }
     }
     Ok(())
 }
 
 pub(crate) fn quote(rt: &impl Print, name: &[u8]) -> io::Result<()> {
     let mut text = [0u8; 256];
-    let Placed::Next(end) = tokens::quote_string(name, &mut text, 0) else {
+    let Ok(end) = tokens::quote_string(name, &mut text, 0) else {
         return say(rt, b"no room");
     };
     if end <= 256 {

@@ -7,13 +7,14 @@ use native.Mathlib.Omega.{arith}
 use lib.ListN.{length, get_or, take, drop, length-append}
 use lib.Seq.{sets, sets-eq, length-sets, take-suc, take_at, take_all, length-take-le}
 use borrow.Author.Tests.{eqb-true}
+use Rattle.std.specs.Prelude.{Result, Ok, Err}
+use Rattle.refusals.specs.declared.reasons.Refusal.{Refusal}
 use Rattle.results.specs.Results.{numbers_in, little_endian, bytes_of, is_whole, told_in}
-use Rattle.results.specs.declared.answers.Answer.{Answer}
-use Rattle.results.specs.declared.answers.Answer.TheVariants.{Served, Refused}
+use Rattle.results.specs.declared.answers.Served.{Served}
 
-seven : (answer : Answer) → length (numbers_in answer) ≡ 7
-seven (Served written counts) = refl
-seven (Refused why) = refl
+seven : (answer : Result Served Refusal) → length (numbers_in answer) ≡ 7
+seven (Ok served) = refl
+seven (Err why) = refl
 
 pub whole_size : (result : List ℕ) → is_whole result ≡ true → length result ≡ 28
 whole_size result e = eqb-true (length result) 28 e
@@ -30,11 +31,11 @@ put_behind r at s h =
     ∙ take_at (take at r ++ s) (drop (at + length s) r) (at + length s) (length-append (take at r) s ∙ ap (λ (n : ℕ). n + length s) (length-take-le at r (omega arith)))
 
 -- ---- what is told, by the length of the result
-pub told_whole : (result : List ℕ) (answer : Answer) → is_whole result ≡ true → told_in result answer ≡ bytes_of (numbers_in answer)
+pub told_whole : (result : List ℕ) (answer : Result Served Refusal) → is_whole result ≡ true → told_in result answer ≡ bytes_of (numbers_in answer)
 unfolding told_in
 told_whole result answer e = ap (λ (t : Bool). cond t (bytes_of (numbers_in answer)) result) e
 
-pub told_other : (result : List ℕ) (answer : Answer) → is_whole result ≡ false → told_in result answer ≡ result
+pub told_other : (result : List ℕ) (answer : Result Served Refusal) → is_whole result ≡ false → told_in result answer ≡ result
 unfolding told_in
 told_other result answer e = ap (λ (t : Bool). cond t (bytes_of (numbers_in answer)) result) e
 
@@ -45,7 +46,7 @@ pub record Putting (numbers result : List ℕ) (k : ℕ) : Type 0 where
   pub size : length result ≡ 28
   pub front : take (4 * k) result ≡ bytes_of (take k numbers)
 
-pub putting_starts : (answer : Answer) (numbers result : List ℕ) → numbers ≡ numbers_in answer → is_whole result ≡ true → Putting numbers result 0
+pub putting_starts : (answer : Result Served Refusal) (numbers result : List ℕ) → numbers ≡ numbers_in answer → is_whole result ≡ true → Putting numbers result 0
 unfolding bytes_of
 putting_starts answer numbers result e whole = record { within = omega arith; many = ap length e ∙ seven answer; size = whole_size result whole; front = refl }
 
@@ -73,7 +74,7 @@ putting_on numbers result after k p h e = record {
     one : k + 1 ≡ suc k
     one = omega arith
 
-pub putting_ends : (answer : Answer) (numbers result : List ℕ) (k : ℕ) → Putting numbers result k → 7 ≤ k → numbers ≡ numbers_in answer → result ≡ bytes_of (numbers_in answer)
+pub putting_ends : (answer : Result Served Refusal) (numbers result : List ℕ) (k : ℕ) → Putting numbers result k → 7 ≤ k → numbers ≡ numbers_in answer → result ≡ bytes_of (numbers_in answer)
 putting_ends answer numbers result k p h e =
     let all : k ≡ 7 = omega arith in
     sym (take_all (4 * k) result (omega arith))

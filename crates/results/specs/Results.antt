@@ -1,18 +1,19 @@
 -- What the host call answers: a number, and seven 32-bit little-endian numbers in a lent result of 28 bytes.
-use Rattle.std.specs.Prelude.{Bool, cond, List, [], ◌∷◌, ◌++◌, ℕ, ◌/◌, ◌%◌, ◌^◌, eqb, length}
+use Rattle.std.specs.Prelude.{Bool, cond, List, [], ◌∷◌, ◌++◌, ℕ, ◌/◌, ◌%◌, ◌^◌, eqb, length, Result, Ok, Err}
 use Rattle.refusals.specs.Reasons.{number_of, detail_of}
-use Rattle.results.specs.declared.answers.Answer.{Answer}
-use Rattle.results.specs.declared.answers.Answer.TheVariants.{Served, Refused}
+use Rattle.refusals.specs.declared.reasons.Refusal.{Refusal}
+use Rattle.results.specs.declared.answers.Served.{Served}
 
 -- "the refusal number, or 0"
-abbrev pub status_in : Answer → ℕ
-status_in (Served written counts) = 0
-status_in (Refused why) = number_of why.reason
+abbrev pub status_in : Result Served Refusal → ℕ
+status_in (Ok served) = 0
+status_in (Err why) = number_of why.reason
 
 -- "line, detail, bytes written, rows, skipped, outdone, assumed; after a refusal the last five are 0"
-abbrev pub numbers_in : Answer → List ℕ
-numbers_in (Served written counts) = 0 ∷ 0 ∷ written ∷ counts.rows ∷ counts.skipped ∷ counts.outdone ∷ counts.assumed ∷ []
-numbers_in (Refused why) = why.line ∷ detail_of why.reason ∷ 0 ∷ 0 ∷ 0 ∷ 0 ∷ 0 ∷ []
+abbrev pub numbers_in : Result Served Refusal → List ℕ
+numbers_in (Ok served) =
+    0 ∷ 0 ∷ served.written ∷ served.counts.rows ∷ served.counts.skipped ∷ served.counts.outdone ∷ served.counts.assumed ∷ []
+numbers_in (Err why) = why.line ∷ detail_of why.reason ∷ 0 ∷ 0 ∷ 0 ∷ 0 ∷ 0 ∷ []
 
 -- four bytes, the lowest first
 abbrev pub little_endian : ℕ → List ℕ
@@ -26,5 +27,5 @@ bytes_of (n ∷ numbers) = little_endian n ++ bytes_of numbers
 abbrev pub is_whole : List ℕ → Bool
 is_whole result = eqb (length result) 28
 
-unfoldable pub told_in : List ℕ → Answer → List ℕ
+unfoldable pub told_in : List ℕ → Result Served Refusal → List ℕ
 told_in result answer = cond (is_whole result) (bytes_of (numbers_in answer)) result

@@ -1,11 +1,10 @@
-// What the service answers.
+// What the service answers: what was served, or a refusal, after which no byte was written and every record is zero.
 use building::Counts;
-use refusals::Refusal;
 
 #[derive(Clone, Copy)]
-pub enum Answer {
-    // How many bytes were written, and the counts of the reading.
-    Served { written: usize, counts: Counts },
-    // No byte was written, and every record is zero.
-    Refused(Refusal),
+pub struct Served {
+    // How many bytes were written.
+    pub written: usize,
+    // The counts of the reading.
+    pub counts: Counts,
 }

@@ -4,5 +4,5 @@
 mod answers;
 mod results;
 
-pub use answers::Answer;
+pub use answers::Served;
 pub use results::{is_whole, put_numbers, status_of};

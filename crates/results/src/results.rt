@@ -3,7 +3,8 @@ ghost use Rattle.std.specs.Prelude.{◌≡◌, true, ◌+◌, ◌≤◌, length}
 ghost use Rattle.std.proofs.lemmas.List.Edits.{sets};
 ghost use Rattle.results.specs.Results.{status_in, numbers_in, little_endian, bytes_of, is_whole, told_in};
 
-use crate::answers::Answer;
+use crate::answers::Served;
+use refusals::Refusal;
 
 pub fn is_whole(res: &[u8]) -> bool
     ensures { result ≡ is_whole res.now }
@@ -11,39 +12,30 @@ pub fn is_whole(res: &[u8]) -> bool
     res.len() == 28
 }
 
-pub fn status_of(answer: Answer) -> u32
+pub fn status_of(answer: Result<Served, Refusal>) -> u32
     ensures { result ≡ status_in answer }
 {
     match answer {
-        Answer::Served {
-            written: _,
-            counts: _,
-        } => 0,
-        Answer::Refused(why) => {
-            let reason = why.reason;
-            reason.number() as u32
-        }
+        Ok(_) => 0,
+        Err(why) => u32::from(why.reason.number()),
     }
 }
 
 // Line, detail, bytes written, rows, skipped, outdone and assumed.
-fn numbers_of(answer: Answer) -> [usize; 7]
+fn numbers_of(answer: Result<Served, Refusal>) -> [usize; 7]
     ensures { result ≡ numbers_in answer }
 {
     match answer {
-        Answer::Served { written, counts } => [
+        Ok(served) => [
             0,
             0,
-            written,
-            counts.rows,
-            counts.skipped,
-            counts.outdone,
-            counts.assumed,
+            served.written,
+            served.counts.rows,
+            served.counts.skipped,
+            served.counts.outdone,
+            served.counts.assumed,
         ],
-        Answer::Refused(why) => {
-            let reason = why.reason;
-            [why.line, reason.detail(), 0, 0, 0, 0, 0]
-        }
+        Err(why) => [why.line, why.reason.detail(), 0, 0, 0, 0, 0],
     }
 }
 
@@ -51,26 +43,22 @@ fn put_number(res: &mut [u8], at: usize, n: usize)
     requires { at + 4 ≤ length res.old }
     ensures { res.new ≡ sets res.old at (little_endian n) }
 {
-    res[at] = (n % 256) as u8;
-    res[at + 1] = (n / 0x100 % 256) as u8;
-    res[at + 2] = (n / 0x10000 % 256) as u8;
-    res[at + 3] = (n / 0x1000000 % 256) as u8;
+    let bytes = n.to_le_bytes();
+    res[at..at + 4].copy_from_slice(&bytes[0..4]);
 }
 
-fn put_whole(res: &mut [u8], answer: Answer)
+fn put_whole(res: &mut [u8], answer: Result<Served, Refusal>)
     requires { is_whole res.old ≡ true }
     ensures { res.new ≡ bytes_of (numbers_in answer) }
 {
     let numbers = numbers_of(answer);
-    let mut k = 0;
-    while k < 7 {
-        put_number(res, 4 * k, numbers[k]);
-        k += 1;
+    for (k, n) in numbers.iter().enumerate() {
+        put_number(res, 4 * k, *n);
     }
 }
 
 // A result of another length stays as it was.
-pub fn put_numbers(res: &mut [u8], answer: Answer)
+pub fn put_numbers(res: &mut [u8], answer: Result<Served, Refusal>)
     ensures { res.new ≡ told_in res.old answer }
 {
     if is_whole(res) {

@@ -3,16 +3,16 @@
 use mathlib.Core.Path.{◌≡◌, refl, sym, ap, ◌∙◌}
 use mathlib.Core.Bool.{Bool, false, not, ◌&&◌, cond}
 use mathlib.Core.List.{List, [], ◌∷◌, map, map-map}
-use mathlib.Core.Option.{Option, none, some}
+use mathlib.Core.Option.{none, some}
 use Prim.Native.Nat.{ℕ, ◌^◌, ◌<◌}
 use lib.Arith.{digits_div, digits_mod}
 use lib.Dec.{eqb, ltb}
 use lib.ListN.{length, length-map}
+use Rattle.std.specs.Prelude.{Option, Some, None}
 use Rattle.names.specs.Polymers.{polymer_of}
 use Rattle.names.specs.Residues.{residues, residue_of}
 use Rattle.names.specs.Table.{resolve_of}
 use Rattle.names.specs.declared.table.Resolved.{Resolved}
-use Rattle.names.specs.declared.table.Resolved.TheVariants.{Standard, Unresolved}
 use Rattle.model.specs.declared.classes.Class.{Class}
 use Rattle.model.specs.Classes.{class_by, class_of, is_resolved, is_lone, is_unknown}
 use Rattle.model.specs.Finished.{known, atom_record, with_class, classified, positioned, all_positioned, further, unknown_in, model_from, unless, finished_of}
@@ -53,9 +53,9 @@ module _ (m : Model) (w : Well m) where
   unfolding is_unknown class_of
   known_so r so = go (resolve_of r.name) so.class
     where
-      go : (t : Resolved) → class_by t r.name (is_lone m.atoms r.key) ≡ class_in r → (not (is_resolved t) && not (not (is_polymer r.code))) ≡ false
-      go (Standard target residue) e = refl
-      go Unresolved e = ap (λ (b : Bool). not (not b)) (ap is_polymer (sym (ap (λ (c : Class). c.code) e)) ∙ no_polymer)
+      go : (t : Option Resolved) → class_by t r.name (is_lone m.atoms r.key) ≡ class_in r → (not (is_resolved t) && not (not (is_polymer r.code))) ≡ false
+      go (Some to) e = refl
+      go None e = ap (λ (b : Bool). not (not b)) (ap is_polymer (sym (ap (λ (c : Class). c.code) e)) ∙ no_polymer)
 
   none_unknown : (l : List ResidueRecord) → All (ResidueSo m) l → unknown_in (map residue_entry l) ≡ none
   unfolding unknown_in
@@ -113,5 +113,5 @@ module _ (m : Model) (w : Well m) where
   pub finish_again : finished_of (state_in m) ≡ known (returned m)
   unfolding finished_of
   finish_again =
-      ap (λ (o : Option ℕ). unless o (model_from (state_in m))) (none_unknown m.residues (all_of (ResidueSo m) m.residues w.residues))
+      (λ i. unless (none_unknown m.residues (all_of (ResidueSo m) m.residues w.residues) i) (model_from (state_in m)))
       ∙ ap known model_again

@@ -7,13 +7,12 @@ use mathlib.Core.Bool.{Bool, true, false}
 use Prim.Native.Nat.{ℕ, suc, ◌+◌, ◌≤◌}
 use native.Mathlib.Omega.{arith}
 use lib.ListN.{length, drop}
+use Rattle.std.specs.Prelude.{Some, Ok}
 use Rattle.ascii.specs.Lists.{every}
 use Rattle.ascii.specs.Words.{starts_with, same_bytes}
 use Rattle.tokens.specs.Longest.{longest}
 use Rattle.rows.specs.Fields.{fields_of}
-use Rattle.rows.specs.Rules.{row_of}
-use Rattle.rows.specs.declared.rules.Row.{Row}
-use Rattle.rows.specs.declared.rules.Row.TheVariants.{Kept}
+use Rattle.rows.specs.Rules.{Row, row_of}
 use Rattle.rows.specs.declared.rules.Site.{Site}
 use Rattle.rows.specs.declared.settings.Settings.{Settings}
 use Rattle.line_states.specs.Heads.{no_heads, start_heads, with_header}
@@ -86,7 +85,7 @@ module _ (settings : Settings) where
   line_passed {heads} {mid} short e g = line_gives (moved mid Nothing) short e tt g
 
   line_kept : {heads mid to : Heads} {line : List ℕ} {lines : List (List ℕ)} {rows : List Taken} (s : Site) → length line ≤ longest → moved_by heads line ≡ moved mid Does.Row
-      → row_of settings (fields_of mid.columns line) ≡ Kept s → Give settings mid lines to rows → Give settings heads (line ∷ lines) to (site s ∷ rows)
+      → row_of settings (fields_of mid.columns line) ≡ Ok (Some s) → Give settings mid lines to rows → Give settings heads (line ∷ lines) to (site s ∷ rows)
   line_kept {heads} {mid} {to} {line} {lines} {rows} s short e k g =
       subst (λ (r : Row). Give settings heads (line ∷ lines) to (row_taken r ++ rows)) k
       (line_gives (moved mid Does.Row) short e (subst (λ (r : Row). GoesOn (row_act r)) (sym k) tt) g)

@@ -8,6 +8,7 @@ use lib.Dec.{T, eqb, ltb}
 use lib.Ieee.{Float}
 use lib.ListN.{length, length-append}
 use borrow.Author.Tests.{ne_eqb, le-leb, ltb-true, ltb-false, lt-ltb}
+use Rattle.std.specs.Prelude.{Some, None, Ok}
 use Rattle.ascii.specs.Bytes.{byte, bytes, first, is_text_byte}
 use Rattle.ascii.specs.Lists.{every}
 use Rattle.ascii.specs.Signs.{is_sign, after_sign}
@@ -15,7 +16,6 @@ use Rattle.ascii.specs.Words.{same_bytes}
 use Rattle.ascii.specs.Digits.{all_digits, number_from}
 use Rattle.ascii.proofs.SignLaws.{after_none}
 use Rattle.ascii.proofs.WordLaws.{same_length}
-use Rattle.numbers.specs.declared.reading.Number.TheVariants.{Value}
 use Rattle.numbers.specs.Printing.{last_digits, digit_count, sign, fixed_text, text_of}
 use Rattle.numbers.specs.Reading.{number_of}
 use Rattle.numbers.specs.Rounding.{printable, units_of, is_negative}
@@ -24,7 +24,6 @@ use Rattle.numbers.proofs.PrintingLaws.{digits_length, digit_count_fits, sign_fi
 use Rattle.tokens.specs.Quote.{all_plain}
 use Rattle.token_values.specs.Sequence.{one, sequence_of, positive_of, negative_of}
 use Rattle.tokens.proofs.QuoteLaws.{plain_append}
-use Rattle.rows.specs.declared.fields.Measure.TheVariants.{Missing, Given}
 use Rattle.rows.specs.Fields.{measure_of}
 use Rattle.row_texts.specs.Fields.{decimal_of, sequence_text, coordinate_text}
 use Rattle.writer.proofs.TextIsShort.{decimal_fits}
@@ -123,9 +122,9 @@ module _ (x : Float) where
         short = coordinate_long.1;
       }
 
-  pub coordinate_again : printable x ≡ true → measure_of (coordinate_text x) ≡ Given (Value (printed x))
+  pub coordinate_again : printable x ≡ true → measure_of (coordinate_text x) ≡ Some (Ok (printed x))
   coordinate_again h =
       let long = coordinate_long.0 in
-      ap (λ (t : Bool). cond (t || same_bytes (coordinate_text x) (bytes "?")) Missing (Given (number_of (coordinate_text x)))) (same_length (coordinate_text x) (bytes ".") (λ e. omega arith))
-      ∙ ap (λ (t : Bool). cond t Missing (Given (number_of (coordinate_text x)))) (same_length (coordinate_text x) (bytes "?") (λ e. omega arith))
-      ∙ ap Given (printed_reads_back 3 x (omega arith) (subst T (sym h) tt))
+      ap (λ (t : Bool). cond (t || same_bytes (coordinate_text x) (bytes "?")) None (Some (number_of (coordinate_text x)))) (same_length (coordinate_text x) (bytes ".") (λ e. omega arith))
+      ∙ ap (λ (t : Bool). cond t None (Some (number_of (coordinate_text x)))) (same_length (coordinate_text x) (bytes "?") (λ e. omega arith))
+      ∙ ap Some (printed_reads_back 3 x (omega arith) (subst T (sym h) tt))

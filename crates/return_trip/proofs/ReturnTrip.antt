@@ -7,6 +7,7 @@ use mathlib.Core.List.{List, [], ◌∷◌, ◌++◌, map, append-nil, Memᴰ}
 use Prim.Native.Nat.{ℕ, suc, ◌≤◌}
 use native.Mathlib.Nat.{le_refl}
 use lib.ListN.{length, length-map}
+use Rattle.std.specs.Prelude.{None}
 use Rattle.lines.specs.Domain.{in_domain}
 use Rattle.lines.specs.Lines.{lines_of}
 use Rattle.lines.proofs.NoneOutside.{none_outside}
@@ -50,7 +51,7 @@ use Rattle.return_trip.proofs.RowsWritable.{AtomWritable, atoms_writable, row_so
 use Rattle.return_trip.proofs.TextLines.{polymers, polymer_line, polymer_part, atom_lines, lines_in, text_lines}
 use Rattle.return_trip.proofs.WellFormedModel.{Well, well}
 
-module _ (m : Model) (formed : well_formed m ≡ true) (can : first_unwritable m 1 m.atoms ≡ 0) where
+module _ (m : Model) (formed : well_formed m ≡ true) (can : first_unwritable m 1 m.atoms ≡ None) where
   w : Well m
   w = well m formed
 

@@ -7,12 +7,12 @@ use native.Mathlib.Omega.{arith}
 use lib.Dec.{eqb}
 use lib.Ieee as ieee
 use lib.ListN.{length, get_or}
+use Rattle.std.specs.Prelude.{Some, Ok}
 use Rattle.ascii.specs.Bytes.{byte, bytes, first}
 use Rattle.ascii.specs.Digits.{digit_run, number_from}
 use Rattle.ascii.specs.Letters.{eq_ignore_case}
 use Rattle.ascii.specs.Signs.{is_sign, after_sign}
 use Rattle.ascii.specs.Words.{same_bytes}
-use Rattle.numbers.specs.declared.reading.Number.TheVariants.{Value}
 use Rattle.numbers.specs.Grammar.{is_word, parts, after_whole, unsigned, spelling_of}
 use Rattle.numbers.specs.Reading.{all_together, within_reach, read_as, number_of}
 use Rattle.numbers.specs.Rounding.{printable}
@@ -26,13 +26,10 @@ use Rattle.names.specs.Packing.{packed, unpacked}
 use Rattle.names.proofs.SymbolsReadAgain.{read_again}
 use Rattle.rows.specs.declared.settings.Settings.{Settings}
 use Rattle.rows.specs.declared.columns.Columns.{Columns}
-use Rattle.rows.specs.declared.fields.Measure.TheVariants.{Given}
 use Rattle.rows.specs.declared.fields.Name.{Name}
-use Rattle.rows.specs.declared.fields.Reach.TheVariants.{Whole}
-use Rattle.rows.specs.declared.rules.Row.TheVariants.{Kept}
 use Rattle.rows.specs.declared.rules.Site.{Site}
 use Rattle.rows.specs.Fields.{name_of, chain_of, insertion_code_of, measure_of, hetatm_at, insertion_code_at, occupancy_at, element_at, fields_of}
-use Rattle.rows.specs.Reach.{first_absent, misses, reach_of}
+use Rattle.rows.specs.Reach.{first_absent, missing_column, misses, reach_of}
 use Rattle.rows.specs.Rules.{one, row_of}
 use Rattle.rows.proofs.RowsKept.{NamesFit, kept}
 use Rattle.line_states.specs.States.{moved_by_token, moved_by_tokens, moved_by}
@@ -95,7 +92,7 @@ factor_word : Word (bytes "0.00")
 unfolding all_plain
 factor_word = bare_word (bytes "0.00") refl
 
-occupancy_again : measure_of (bytes "1.00") ≡ Given (Value one)
+occupancy_again : measure_of (bytes "1.00") ≡ Some (Ok one)
 unfolding same_bytes number_of read_as within_reach all_together spelling_of unsigned after_whole parts is_word eq_ignore_case digit_run number_from after_sign is_sign ieee.round ieee.units ieee.odd ieee.size ieee.climb ieee.span ieee.of_bits ieee.of_fields
 occupancy_again = refl
 
@@ -154,8 +151,8 @@ module _ (row : AtomRow) (so : RowSo row) where
   at k = ap (λ (ts : List (List ℕ)). get_or ts k []) row_tokens
 
   -- ---- what its fields say
-  reaches : reach_of written_columns (length (tokens_of (atom_line row))) ≡ Whole
-  unfolding reach_of first_absent misses
+  reaches : reach_of written_columns (length (tokens_of (atom_line row))) ≡ Ok tt
+  unfolding reach_of missing_column first_absent misses
   reaches = ap (λ (ts : List (List ℕ)). reach_of written_columns (length ts)) row_tokens
 
   chain_name : chain_of (token_at (atom_line row) 17) ≡ name_of (unpacked row.chain)
@@ -170,7 +167,7 @@ module _ (row : AtomRow) (so : RowSo row) where
   }
 
   -- ---- the theorem
-  pub row_again : (settings : Settings) → row_of settings (fields_of written_columns (atom_line row)) ≡ Kept (site_of_row row)
+  pub row_again : (settings : Settings) → row_of settings (fields_of written_columns (atom_line row)) ≡ Ok (Some (site_of_row row))
   unfolding fields_of hetatm_at insertion_code_at occupancy_at element_at
   row_again settings =
       kept settings (fields_of written_columns (atom_line row)) reaches
@@ -179,7 +176,7 @@ module _ (row : AtomRow) (so : RowSo row) where
       (ap measure_of (at 12) ∙ coordinate_again row.position.z so.z)
       (ap measure_of (at 13) ∙ occupancy_again)
       fit
-      ∙ (λ i. Kept (record {
+      ∙ (λ i. Ok (Some (record {
         chain = (ap (λ (n : Name). n.packed) chain_name ∙ name_again row.chain so.chain.named) i;
         sequence = (ap sequence_of (at 15) ∙ sequence_again row.sequence so.sequence) i;
         insertion_code = (ap insertion_code_of (at 9) ∙ code_again row.insertion_code so.code) i;
@@ -190,4 +187,4 @@ module _ (row : AtomRow) (so : RowSo row) where
         position = printed_point row.position;
         occupancy = one;
         assumed = false;
-      }))
+      })))

@@ -9,6 +9,7 @@ use native.Mathlib.Omega.{arith}
 use lib.Dec.{eqb}
 use lib.ListN.{length, get_or}
 use borrow.Author.Tests.{not-true}
+use Rattle.std.specs.Prelude.{Some, None}
 use Rattle.ascii.specs.Bytes.{bytes}
 use Rattle.ascii.proofs.TestLaws.{neither_of}
 use Rattle.names.specs.Packing.{packed}
@@ -22,17 +23,14 @@ use Rattle.return_trip.proofs.RowsAgain.{RowSo}
 use Rattle.return_trip.proofs.WellFormedModel.{Well, residue_itself, one_of, residue_of_lem, atom_of_lem, chain_within}
 
 -- ---- no atom is unwritable
-none_unwritable : (m : Model) (id : ℕ) (l : List AtomRecord) → first_unwritable m (suc id) l ≡ 0 → (a : AtomRecord) → Memᴰ a l → is_unwritable m a ≡ false
+none_unwritable : (m : Model) (id : ℕ) (l : List AtomRecord) → first_unwritable m (suc id) l ≡ None → (a : AtomRecord) → Memᴰ a l → is_unwritable m a ≡ false
 unfolding first_unwritable
 none_unwritable m id [] e a d = absurd (Memᴰ.not-nil d)
 none_unwritable m id (b ∷ l) e a d = go (is_unwritable m b) refl e (Memᴰ.cases_cons d) (λ f. none_unwritable m (suc id) l f a)
   where
-    go : (t : Bool) → is_unwritable m b ≡ t → cond t (suc id) (first_unwritable m (suc (suc id)) l) ≡ 0 → (a ≡ b) ⊎ Memᴰ a l
-        → (first_unwritable m (suc (suc id)) l ≡ 0 → Memᴰ a l → is_unwritable m a ≡ false) → is_unwritable m a ≡ false
-    go true t e c r = absurd (none e)
-      where
-        none : suc id ≡ 0 → ⊥
-        none e = omega arith
+    go : (t : Bool) → is_unwritable m b ≡ t → cond t (Some (suc id)) (first_unwritable m (suc (suc id)) l) ≡ None → (a ≡ b) ⊎ Memᴰ a l
+        → (first_unwritable m (suc (suc id)) l ≡ None → Memᴰ a l → is_unwritable m a ≡ false) → is_unwritable m a ≡ false
+    go true t e c r = let z : ◌≡◌ {A = ℕ} 0 1 = cc in absurd (omega arith)
     go false t e (inl q) r = ap (is_unwritable m) q ∙ t
     go false t e (inr k) r = r e k
 
@@ -42,7 +40,7 @@ pub record AtomWritable (m : Model) (a : AtomRecord) : Type 0 where
   pub chain : holds_both_quotes (get_or m.chains (chain_part a.key) 0) ≡ false
   pub code : is_unwritable_code (code_part a.key) ≡ false
 
-pub atoms_writable : (m : Model) → first_unwritable m 1 m.atoms ≡ 0 → (a : AtomRecord) → Memᴰ a m.atoms → AtomWritable m a
+pub atoms_writable : (m : Model) → first_unwritable m 1 m.atoms ≡ None → (a : AtomRecord) → Memᴰ a m.atoms → AtomWritable m a
 unfolding is_unwritable
 atoms_writable m e a d =
     let atom = holds_both_quotes a.name in

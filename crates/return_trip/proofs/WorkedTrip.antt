@@ -10,6 +10,7 @@ use lib.Ieee.{Float, binary64}
 use lib.Ieee as ieee
 use lib.ListN.{length}
 use borrow.Author.Tests.{leb-true}
+use Rattle.std.specs.Prelude.{None}
 use Rattle.ascii.specs.Bytes.{bytes}
 use Rattle.numbers.specs.Printing.{last_digits, count_up_to, digit_count, sign, fixed_text}
 use Rattle.numbers.specs.Printing as printing
@@ -78,7 +79,7 @@ unfolding
     printable ieee.of_bits
 whole_case_is_well_formed = refl
 
-pub whole_case_is_writable : first_unwritable whole_case 1 whole_case.atoms ≡ 0
+pub whole_case_is_writable : first_unwritable whole_case 1 whole_case.atoms ≡ None
 unfolding whole_case first_unwritable is_unwritable is_unwritable_code holds_both_quotes has packed_in unpacked_in residue_for residue_code
 whole_case_is_writable = refl
 

@@ -22,7 +22,9 @@ use Rattle.model.specs.declared.room.Room.{Room}
 use Rattle.model.specs.WellFormed.{well_formed, counts_fit, well_formed_in}
 use Rattle.model.proofs.ListLaws.{left_of, right_of}
 use Rattle.readings.specs.Reading.{largest, read, answer_of, left_by}
-use Rattle.readings.specs.declared.answers.Answer.{Answer}
+use Rattle.std.specs.Prelude.{Option, Some, None, Result, Ok}
+use Rattle.refusals.specs.declared.reasons.Refusal.{Refusal}
+use Rattle.building.specs.declared.sites.Counts.{Counts}
 use Rattle.reader.specs.Reading.{read_of, ReadBy}
 use Rattle.row_texts.specs.Fields.{coordinate_text}
 use Rattle.writer.specs.Text.{text_of}
@@ -38,7 +40,7 @@ returned_is_nearest x h = value_is_nearest (coordinate_text x) (printed x) (prin
 -- ---- what was written
 record Wrote (m : Model) (text : List ℕ) : Type 0 where
   formed : well_formed m ≡ true
-  writable : first_unwritable m 1 m.atoms ≡ 0
+  writable : first_unwritable m 1 m.atoms ≡ None
   same : text_of m ≡ text
 
 refused_not : {why : Reason} {text : List ℕ} {A : Type 0} → refused why ≡ written text → A
@@ -55,9 +57,9 @@ wrote l counts size text e = go (well_formed_in l counts) refl e
     by_size true e = cc
     by_size false e = refused_not e
 
-    by_id : (id : ℕ) → well_formed m ≡ true → first_unwritable m 1 m.atoms ≡ id → written_but id size m ≡ written text → Wrote m text
-    by_id zero f u e = record { formed = f; writable = u; same = by_size (leb (length (text_of m)) size) e }
-    by_id (suc id) f u e = refused_not e
+    by_id : (id : Option ℕ) → well_formed m ≡ true → first_unwritable m 1 m.atoms ≡ id → written_but id size m ≡ written text → Wrote m text
+    by_id None f u e = record { formed = f; writable = u; same = by_size (leb (length (text_of m)) size) e }
+    by_id (Some id) f u e = refused_not e
 
     go : (t : Bool) → (counts_fit l counts && well_formed m) ≡ t → cond t (written_but (first_unwritable m 1 m.atoms) size m) (refused NotWellFormed) ≡ written text → Wrote m text
     go true q e = by_id (first_unwritable m 1 m.atoms) (right_of (counts_fit l counts) (well_formed m) q) refl e
@@ -92,6 +94,6 @@ module _ (settings : Settings) (l k : Lent) (counts : Room) (size : ℕ) (text :
       ∙ return_trip (model_in l counts) w.formed w.writable settings (room_of k) (as_many l k counts fit) (subst (λ (t : List ℕ). length t ≤ largest) (sym w.same) short)
 
   -- what `read` then answers and leaves
-  pub read_leaves_it : (r : Answer) (after : Lent) → ReadBy settings k text r after
-      → (r ≡ Answer.Read (returned_counts (model_in l counts))) × (after ≡ holding k (returned (model_in l counts)))
+  pub read_leaves_it : (r : Result Counts Refusal) (after : Lent) → ReadBy settings k text r after
+      → (r ≡ Ok (returned_counts (model_in l counts))) × (after ≡ holding k (returned (model_in l counts)))
   read_leaves_it r after h = (h.0 ∙ ap answer_of written_is_read, h.1 ∙ ap (left_by k) written_is_read)

@@ -3,12 +3,11 @@ use mathlib.Core.Path.{◌≡◌, refl, ◌∙◌, subst}
 use mathlib.Core.List.{List, [], ◌∷◌}
 use Prim.Native.Nat.{ℕ, suc, ◌+◌}
 use lib.ListN.{length, length-append}
+use Rattle.std.specs.Prelude.{Some, None, Ok, Err}
 use Rattle.lines.specs.Lines.{lines_of}
 use Rattle.rows.specs.Fields.{fields_of}
-use Rattle.rows.specs.Rules.{row_of}
+use Rattle.rows.specs.Rules.{Row, row_of}
 use Rattle.rows.specs.declared.columns.Columns.{Columns}
-use Rattle.rows.specs.declared.rules.Row.{Row}
-use Rattle.rows.specs.declared.rules.Row.TheVariants.{Refused, Skipped, Kept}
 use Rattle.rows.specs.declared.settings.Settings.{Settings}
 use Rattle.line_states.specs.Heads.{start_heads}
 use Rattle.line_states.specs.States.{moved_by}
@@ -41,9 +40,9 @@ module _ (settings : Settings) where
   row_counted line columns Does.Row g = go (row_of settings (fields_of columns line)) g
     where
       go : (r : Row) → GoesOn (row_act r) → length (taken_by Does.Row r) ≡ 1
-      go (Refused why) g = absurd g
-      go Skipped g = refl
-      go (Kept s) g = refl
+      go (Err why) g = absurd g
+      go (Ok None) g = refl
+      go (Ok (Some s)) g = refl
   row_counted line columns TooManyHeaders g = absurd g
 
   line_counted : (heads : Heads) (line : List ℕ) → GoesOn (line_act settings heads line)

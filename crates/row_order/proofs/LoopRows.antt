@@ -7,14 +7,13 @@ use Prim.Native.Nat.{ℕ, suc, ◌≤◌}
 use lib.Dec.{ltb}
 use lib.ListN.{length}
 use borrow.Author.Tests.{ltb-false, le-ltb}
+use Rattle.std.specs.Prelude.{Some, None, Ok, Err}
 use Rattle.ascii.specs.Lists.{every}
 use Rattle.refusals.specs.declared.reasons.Reason.TheVariants.{LineTooLong}
 use Rattle.tokens.specs.Longest.{longest}
 use Rattle.rows.specs.Fields.{fields_of}
-use Rattle.rows.specs.Rules.{row_of}
+use Rattle.rows.specs.Rules.{Row, row_of}
 use Rattle.rows.specs.declared.columns.Columns.{Columns}
-use Rattle.rows.specs.declared.rules.Row.{Row}
-use Rattle.rows.specs.declared.rules.Row.TheVariants.{Refused, Skipped, Kept}
 use Rattle.rows.specs.declared.settings.Settings.{Settings}
 use Rattle.line_states.specs.Heads.{in_state}
 use Rattle.line_states.specs.States.{moved, moved_by}
@@ -136,7 +135,7 @@ module _ (settings : Settings) (columns : Columns) where
   in_given line h = ap (λ (b : Bool). row_in (cond b (Refuse LineTooLong) (cond (is_row line) (row_act (row_of settings (fields_of columns line))) Pass))) (le-ltb longest (length line) h) ∙ go (is_row line) (row_of settings (fields_of columns line))
     where
       go : (b : Bool) (r : Row) → row_in (cond b (row_act r) Pass) ≡ cond b (row_taken r) []
-      go true (Refused why) = refl
-      go true Skipped = refl
-      go true (Kept s) = refl
+      go true (Err why) = refl
+      go true (Ok None) = refl
+      go true (Ok (Some s)) = refl
       go false r = refl

@@ -8,7 +8,9 @@ use Rattle.model.specs.Records.{Model}
 use Rattle.model.specs.declared.room.Room.{Room}
 use Rattle.readings.specs.Ends.{ToTheEnd}
 use Rattle.readings.specs.Reading.{Reading, read, refused, answer_of, left_by}
-use Rattle.readings.specs.declared.answers.Answer.{Answer}
+use Rattle.std.specs.Prelude.{Result}
+use Rattle.refusals.specs.declared.reasons.Refusal.{Refusal}
+use Rattle.building.specs.declared.sites.Counts.{Counts}
 use Rattle.reader.specs.Reading.{read_of, ReadBy}
 use Rattle.row_order.specs.Ends.{AnsweredAtTheEnd, HoldAlike}
 use Rattle.row_order.specs.Order.{DifferInOrder}
@@ -29,7 +31,7 @@ left_is l (refused why) = refl
 
 -- ---- the theorem
 pub order_of_reads : (settings : Settings) (t u : List ℕ) → DifferInOrder settings t u → (l k : Lent) → room_of l ≡ room_of k
-    → (r q : Answer) (after afterwards : Lent) → ReadBy settings l t r after → ReadBy settings k u q afterwards
+    → (r q : Result Counts Refusal) (after afterwards : Lent) → ReadBy settings l t r after → ReadBy settings k u q afterwards
     → AnsweredAtTheEnd r → (r ≡ q) × HoldAlike l after k afterwards
 order_of_reads settings t u d l k room r q after afterwards one other end =
     let same : read_of settings (room_of l) t ≡ read_of settings (room_of k) u

@@ -9,14 +9,13 @@ use Prim.Native.Nat.{ℕ, ◌+◌, ◌^◌}
 use native.Mathlib.Omega.{arith}
 use lib.Dec.{eqb}
 use borrow.Author.Tests.{eqb-true}
+use Rattle.std.specs.Prelude.{Some, None, Ok, Err}
 use Rattle.ascii.specs.Bytes.{bytes}
 use Rattle.names.specs.Packing.{packed_in, packed}
 use Rattle.rows.specs.Fields.{fields_of}
-use Rattle.rows.specs.Rules.{row_of}
+use Rattle.rows.specs.Rules.{Row, row_of}
 use Rattle.rows.specs.Settings.{assuming}
 use Rattle.rows.specs.declared.columns.Columns.{Columns}
-use Rattle.rows.specs.declared.rules.Row.{Row}
-use Rattle.rows.specs.declared.rules.Row.TheVariants.{Refused, Skipped, Kept}
 use Rattle.rows.specs.declared.rules.Site.{Site}
 use Rattle.model.specs.Alike.{is_of}
 use Rattle.model.specs.Lists.{filter, any, All}
@@ -66,7 +65,7 @@ module _ (s : Site) where
 abbrev row : List ℕ → Row
 row line = row_of assuming (fields_of columns line)
 
-row_given : (line : List ℕ) (t : Site) → is_row line ≡ true → row line ≡ Kept t → given_by assuming columns line ≡ site t ∷ []
+row_given : (line : List ℕ) (t : Site) → is_row line ≡ true → row line ≡ Ok (Some t) → given_by assuming columns line ≡ site t ∷ []
 row_given line t r k = λ i. cond (r i) (row_taken (k i)) []
 
 none_given : (line : List ℕ) → is_row line ≡ false → given_by assuming columns line ≡ []
@@ -82,9 +81,9 @@ gives : (line : List ℕ) (sequence : ℕ) → is_row line ≡ true → chain_an
 gives line sequence is_row e = go (row line) refl (ap (λ (x : Columns). chain_and_sequence (row_of assuming (fields_of x line))) columns_are ∙ e)
   where
     go : (r : Row) → row line ≡ r → chain_and_sequence r ≡ packed (bytes "A") ∷ sequence ∷ [] → Gives line sequence
-    go (Refused why) k e = absurd (nil≢cons e)
-    go Skipped k e = absurd (nil≢cons e)
-    go (Kept t) k e = record { taken = t; given = row_given line t is_row k; chain = cc; sequence_is = cc }
+    go (Err why) k e = absurd (nil≢cons e)
+    go (Ok None) k e = absurd (nil≢cons e)
+    go (Ok (Some t)) k e = record { taken = t; given = row_given line t is_row k; chain = cc; sequence_is = cc }
 
 first : Gives carbon (2 ^ 31 + 7)
 first = gives carbon (2 ^ 31 + 7) are_rows.0 told.0

@@ -7,6 +7,7 @@ use mathlib.Core.List.{List, [], ◌∷◌, ◌++◌, map}
 use Prim.Native.Nat.{ℕ, ◌+◌, ◌^◌, ◌≤◌}
 use native.Mathlib.Bridge.{le_by_compare, IsLe}
 use lib.ListN.{length}
+use Rattle.std.specs.Prelude.{Some, None, Ok, Err}
 use Rattle.ascii.specs.Bytes.{bytes}
 use Rattle.ascii.specs.Digits.{digit_run, all_digits, number_from, capped}
 use Rattle.ascii.specs.Letters.{eq_ignore_case}
@@ -25,11 +26,9 @@ use Rattle.names.specs.Table.{canonical, aliases, resolve_in, resolve_of}
 use Rattle.lines.specs.Domain.{outside_from}
 use Rattle.lines.specs.Lines.{lines_of}
 use Rattle.rows.specs.Fields.{hetatm_at, insertion_code_at, occupancy_at, element_at, fields_of}
-use Rattle.rows.specs.Reach.{first_absent, misses, reach_of}
-use Rattle.rows.specs.Rules.{named, occupied, located, reached, row_of}
+use Rattle.rows.specs.Reach.{missing_column, first_absent, misses, reach_of}
+use Rattle.rows.specs.Rules.{Row, named, occupied, located, reached, row_of}
 use Rattle.rows.specs.declared.columns.Columns.{Columns}
-use Rattle.rows.specs.declared.rules.Row.{Row}
-use Rattle.rows.specs.declared.rules.Row.TheVariants.{Refused, Skipped, Kept}
 use Rattle.rows.specs.Settings.{assuming}
 use Rattle.line_states.specs.Heads.{start_heads}
 use Rattle.line_states.specs.States.{moved_by_token, moved_by}
@@ -123,9 +122,9 @@ unfoldable pub columns : Columns
 columns = (heads_after start_heads headers).columns
 
 abbrev pub chain_and_sequence : Row → List ℕ
-chain_and_sequence (Refused why) = []
-chain_and_sequence Skipped = []
-chain_and_sequence (Kept s) = s.chain ∷ s.sequence ∷ []
+chain_and_sequence (Err why) = []
+chain_and_sequence (Ok None) = []
+chain_and_sequence (Ok (Some s)) = s.chain ∷ s.sequence ∷ []
 
 -- group, then atom, residue, chain and sequence by their auth columns, no insertion code, x, y, z, occupancy and symbol
 abbrev pub found : Columns
@@ -139,7 +138,7 @@ columns_are = refl
 pub told : (chain_and_sequence (row_of assuming (fields_of found carbon)) ≡ packed (bytes "A") ∷ (2 ^ 31 + 7) ∷ [])
     × (chain_and_sequence (row_of assuming (fields_of found again)) ≡ packed (bytes "A") ∷ (2 ^ 31 + 7) ∷ [])
     × (chain_and_sequence (row_of assuming (fields_of found oxygen)) ≡ packed (bytes "A") ∷ (2 ^ 31 + 9) ∷ [])
-unfolding carbon again oxygen tokens_of token_at scan trim_start trim_end starts_with same_bytes fields_of hetatm_at insertion_code_at occupancy_at element_at first_absent misses reach_of named occupied located reached row_of eq_ignore_case sequence_of packed_in symbols element_from element_of digit_run all_digits number_from capped is_sign after_sign is_exponent_letter is_word is_exponent parts after_whole unsigned spelling_of all_together within_reach read_as number_of
+unfolding carbon again oxygen tokens_of token_at scan trim_start trim_end starts_with same_bytes fields_of hetatm_at insertion_code_at occupancy_at element_at first_absent missing_column misses reach_of named occupied located reached row_of eq_ignore_case sequence_of packed_in symbols element_from element_of digit_run all_digits number_from capped is_sign after_sign is_exponent_letter is_word is_exponent parts after_whole unsigned spelling_of all_together within_reach read_as number_of
 told = (refl, refl, refl)
 
 -- ---- the one is read to its end
@@ -147,5 +146,5 @@ abbrev pub room : Room
 room = record { chains = 64; residues = 512; atoms = 1024 }
 
 pub is_read : ToTheEnd (read_of assuming room one)
-unfolding one together headers carbon comment again cell oxygen outside_from lines_of reading_of made acts_from line_act moved_by moved_by_token tokens_of token_at scan trim_start trim_end starts_with same_bytes item_names place_in fields_of hetatm_at insertion_code_at occupancy_at element_at first_absent misses reach_of named occupied located reached row_of eq_ignore_case sequence_of packed_in symbols element_from element_of digit_run all_digits number_from capped is_sign after_sign is_exponent_letter is_word is_exponent parts after_whole unsigned spelling_of all_together within_reach read_as number_of lacking step with_chain chain_place residue_at atom_at find put finished_of unknown_in is_unknown resolve_of resolve_in canonical aliases
+unfolding one together headers carbon comment again cell oxygen outside_from lines_of reading_of made acts_from line_act moved_by moved_by_token tokens_of token_at scan trim_start trim_end starts_with same_bytes item_names place_in fields_of hetatm_at insertion_code_at occupancy_at element_at first_absent missing_column misses reach_of named occupied located reached row_of eq_ignore_case sequence_of packed_in symbols element_from element_of digit_run all_digits number_from capped is_sign after_sign is_exponent_letter is_word is_exponent parts after_whole unsigned spelling_of all_together within_reach read_as number_of lacking step with_chain chain_place residue_at atom_at find put finished_of unknown_in is_unknown resolve_of resolve_in canonical aliases
 is_read = tt

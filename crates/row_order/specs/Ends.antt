@@ -1,13 +1,14 @@
 -- What it is to be read alike.
 use Prim.{Unit}
-use Rattle.std.specs.Prelude.{◌≡◌, List, ℕ}
+use Rattle.std.specs.Prelude.{◌≡◌, List, ℕ, Result, Ok, Err}
 use Rattle.rows.specs.declared.settings.Settings.{Settings}
 use Rattle.model.specs.Fold.{model_of}
 use Rattle.model.specs.Lent.{Lent, holding}
 use Rattle.model.specs.Records.{Model}
 use Rattle.model.specs.declared.room.Room.{Room}
 use Rattle.readings.specs.Ends.{AfterAllLines, ToTheEnd}
-use Rattle.readings.specs.declared.answers.Answer.{Answer}
+use Rattle.refusals.specs.declared.reasons.Refusal.{Refusal}
+use Rattle.building.specs.declared.sites.Counts.{Counts}
 use Rattle.mmcif.specs.Rows.{rows_of}
 use Rattle.reader.specs.Reading.{read_of}
 
@@ -19,9 +20,9 @@ pub record ReadAlike (settings : Settings) (room : Room) (t u : List ℕ) : Type
 
 -- ---- the same of what is answered and left in the slices
 
-abbrev pub AnsweredAtTheEnd : Answer → Type 0
-AnsweredAtTheEnd (Answer.Read counts) = Unit {0}
-AnsweredAtTheEnd (Answer.Refused why) = AfterAllLines why
+abbrev pub AnsweredAtTheEnd : Result Counts Refusal → Type 0
+AnsweredAtTheEnd (Ok counts) = Unit {0}
+AnsweredAtTheEnd (Err why) = AfterAllLines why
 
 -- both hold the same model, the empty one after a refusal
 pub record HoldAlike (l after k afterwards : Lent) : Type 0 where

@@ -7,8 +7,9 @@ use native.Mathlib.Omega.{arith}
 use lib.ListN.{length, length-append}
 use lib.Seq.{sets, length-sets}
 use borrow.Author.Tests.{le-leb}
+use Rattle.std.specs.Prelude.{Result}
 use Rattle.ascii.specs.Output.{Stored, fits, placed_of, buffer_after}
-use Rattle.ascii.specs.declared.output.Placed.{Placed}
+use Rattle.ascii.specs.declared.output.NoRoom.{NoRoom}
 use Rattle.ascii.proofs.OutputLaws.{placed_fits, placed_not, after_fits, after_not, stored_append}
 use Rattle.row_texts.specs.Emitted.{Emitted, place_after}
 
@@ -60,7 +61,7 @@ module _ (out : List ℕ) (at : ℕ) (text : List ℕ) where
       go true e = ap length (after_fits out at text e) ∙ length-sets out at text
       go false e = ap length (after_not out at text e)
 
-  pub placed_emits : {placed : Placed} {next : ℕ} {after : List ℕ} → (placed ≡ placed_of out at text) × (after ≡ buffer_after out at text)
+  pub placed_emits : {placed : Result ℕ NoRoom} {next : ℕ} {after : List ℕ} → (placed ≡ placed_of out at text) × (after ≡ buffer_after out at text)
       → (place_after at placed < 2 ^ 64 → next ≡ place_after at placed) → Emitted out at text next after
   placed_emits {placed} {next} {after} p q =
       let place : place_after at placed ≡ at + length text = ap (place_after at) p.0 ∙ place_of in

@@ -1,5 +1,5 @@
 -- The text of a field, by the case that the code has found; and a name that was unpacked into a cell of 8 bytes stands at its front.
-use mathlib.Core.Path.{◌≡◌, ap, ◌∙◌}
+use mathlib.Core.Path.{◌≡◌, sym, ap, ◌∙◌}
 use mathlib.Core.Bool.{true}
 use mathlib.Core.List.{List, [], ◌∷◌}
 use Prim.Native.Nat.{ℕ, ◌-◌, ◌^◌, ◌≤◌, ◌<◌}
@@ -7,14 +7,15 @@ use native.Mathlib.Nat.{sub-zero}
 use native.Mathlib.Omega.{arith}
 use lib.Ieee.{Float}
 use lib.ListN.{length, take, drop}
+use Rattle.std.specs.Prelude.{Result, Ok, Err}
 use borrow.Author.Tests.{eq-eqb, ne_eqb, lt-ltb, le-ltb}
 use Rattle.ascii.specs.Bytes.{byte, bytes}
-use Rattle.ascii.specs.declared.output.Placed.{Placed}
+use Rattle.ascii.specs.declared.output.NoRoom.{NoRoom}
 use Rattle.ascii.specs.Output.{placed_of, buffer_after}
-use Rattle.numbers.specs.declared.printing.Printed.{Printed}
-use Rattle.numbers.specs.declared.printing.Printed.TheVariants.{BeyondReach, Put}
+use Rattle.numbers.specs.declared.printing.PrintError.{PrintError}
+use Rattle.numbers.specs.declared.printing.PrintError.TheVariants as print_error
 use Rattle.numbers.specs.Rounding.{printable}
-use Rattle.numbers.specs.Writing.{printed_of, after_printing}
+use Rattle.numbers.specs.Writing.{as_printed, printed_of, after_printing}
 use Rattle.names.specs.Packing.{unpacked, cell_of}
 use Rattle.names.proofs.CellTurns.{cell_holds, cell_length}
 use Rattle.names.proofs.PackingTurns.{unpacked_short}
@@ -45,8 +46,8 @@ module _ (name : ℕ) {n : ℕ} {cell : List ℕ} (u : (n ≡ length (unpacked n
   name_in_front = rw (sub-zero, u.0, u.1) (cell_holds 8 (unpacked name) (unpacked_short 8 name))
 
 -- a printable coordinate is put, or has no room
-module _ (x : Float) (out : List ℕ) (at : ℕ) (near : printable x ≡ true) {printed : Printed} {after : List ℕ} (p : (printed ≡ printed_of 3 x out at) × (after ≡ after_printing 3 x out at)) where
-  printed_put : printed_of 3 x out at ≡ Put (placed_of out at (coordinate_text x))
+module _ (x : Float) (out : List ℕ) (at : ℕ) (near : printable x ≡ true) {printed : Result ℕ PrintError} {after : List ℕ} (p : (printed ≡ printed_of 3 x out at) × (after ≡ after_printing 3 x out at)) where
+  printed_put : printed_of 3 x out at ≡ as_printed (placed_of out at (coordinate_text x))
   unfolding printed_of
   printed_put = simp near
 
@@ -54,8 +55,18 @@ module _ (x : Float) (out : List ℕ) (at : ℕ) (near : printable x ≡ true) {
   unfolding after_printing
   printed_after = simp near
 
-  pub within_reach_lem : printed ≡ BeyondReach → ⊥
-  within_reach_lem e = let z : ◌≡◌ {A = ℕ} 0 1 = cc (p.0, printed_put) in omega arith
+  pub within_reach_lem : printed ≡ Err print_error.BeyondReach → ⊥
+  within_reach_lem e = go (placed_of out at (coordinate_text x)) (sym e ∙ p.0 ∙ printed_put)
+    where
+      go : (placed : Result ℕ NoRoom) → Err print_error.BeyondReach ≡ as_printed placed → ⊥
+      go (Ok next) f = let z : ◌≡◌ {A = ℕ} 0 1 = cc in omega arith
+      go (Err short) f = let z : ◌≡◌ {A = ℕ} 0 1 = cc in omega arith
 
-  pub coordinate_put : {placed : Placed} → printed ≡ Put placed → (placed ≡ placed_of out at (coordinate_text x)) × (after ≡ buffer_after out at (coordinate_text x))
-  coordinate_put e = (cc (p.0, printed_put), p.1 ∙ printed_after)
+  pub coordinate_put : (placed : Result ℕ NoRoom) → printed ≡ as_printed placed → (placed ≡ placed_of out at (coordinate_text x)) × (after ≡ buffer_after out at (coordinate_text x))
+  coordinate_put placed e = (go placed (placed_of out at (coordinate_text x)) (sym e ∙ p.0 ∙ printed_put), p.1 ∙ printed_after)
+    where
+      go : (a b : Result ℕ NoRoom) → as_printed a ≡ as_printed b → a ≡ b
+      go (Ok n) (Ok m) f = let z : n ≡ m = cc in ap Ok z
+      go (Err n) (Err m) f = let z : n ≡ m = cc in ap Err z
+      go (Ok n) (Err m) f = let z : ◌≡◌ {A = ℕ} 0 1 = cc in absurd (omega arith)
+      go (Err n) (Ok m) f = let z : ◌≡◌ {A = ℕ} 0 1 = cc in absurd (omega arith)

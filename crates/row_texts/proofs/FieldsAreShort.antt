@@ -96,3 +96,6 @@ coordinate_counted x {n} p = (p.0, go (printable x) p.0 p.1)
     go : (t : Bool) → (t ≡ true → n ≡ length (coordinate_text x)) → (t ≡ false → n ≡ 0) → n ≤ 25
     go true e f = rw (e refl) (coordinate_short x)
     go false e f = omega (arith, f refl)
+
+-- what the length of a field follows from
+pub ruleset short_fields = (counted, from_the_start, decimal_short, symbol_short)

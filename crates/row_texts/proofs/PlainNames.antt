@@ -28,13 +28,13 @@ module _ (rest more : ℕ) {b : ℕ} (some : rest ≡ 0 → ⊥) (front : b ≡ 
   unfolding all_plain
   plain_turn h = ap all_plain front_and_behind ∙ ap (λ (t : Bool). t && all_plain (unpacked more)) (plain_behind b h)
 
-pub plain_last : (name n : ℕ) {rest : ℕ} → rest ≡ 0 → length (unpacked name) ≡ n + length (unpacked rest) → all_plain (unpacked name) ≡ all_plain (unpacked rest)
-    → 0 < n → (name_text name ≡ unpacked name) × (n ≡ length (unpacked name))
+pub plain_last : (name n : ℕ) {rest : ℕ} → (name ≡ 0 → ⊥) → rest ≡ 0 → length (unpacked name) ≡ n + length (unpacked rest) → all_plain (unpacked name) ≡ all_plain (unpacked rest)
+    → (name_text name ≡ unpacked name) × (n ≡ length (unpacked name))
 unfolding all_plain
-plain_last name n none long plain some =
+plain_last name n some none long plain =
     let empty = unpacked_none 8 in
     let all : length (unpacked name) ≡ n = long ∙ rw (none, empty) (omega arith) in
-    (quote_bare (unpacked name) (λ e. omega arith) (plain ∙ rw (none, empty)), sym all)
+    (quote_bare (unpacked name) (λ e. omega (arith, ap length (first_in_front name some))) (plain ∙ rw (none, empty)), sym all)
 
 -- what is put of a name so far, and then the bytes of the rest, is the whole name
 pub record Putting (out₀ : List ℕ) (at name : ℕ) (out : List ℕ) (next rest : ℕ) : Type 0 where

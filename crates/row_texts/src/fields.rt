@@ -1,12 +1,14 @@
 // The text of each field of a row put at a place of a lent buffer.
+#![tactic(auto, using(crate::proofs::EmittedLaws::then), unfolding(crate::specs::Fields::sequence_text, crate::specs::Fields::code_text, crate::specs::Fields::group_text, crate::specs::Fields::number_text))]
+
 ghost use Rattle.std.specs.Prelude.{◌≡◌, true};
 ghost use Rattle.numbers.specs.Rounding.{printable};
 ghost use Rattle.row_texts.specs.Emitted.{Emits};
 ghost use Rattle.row_texts.specs.Fields.{decimal_of, sequence_text, name_text, symbol_text, code_text, group_text, number_text, coordinate_text};
 
-use crate::emitting::{place_after, put_byte, put_word};
+use crate::emitting::{place_after, place_on, put_byte, put_word};
 use crate::packed_names::{plain_length, put_packed};
-use numbers::Printed;
+use numbers::PrintError;
 
 // Where sequence number 0 stands among those moved up.
 pub(crate) const ZERO: u32 = 0x8000_0000;
@@ -32,10 +34,10 @@ pub(crate) fn put_sequence(out: &mut [u8], at: usize, sequence: u32) -> usize
 pub(crate) fn put_name(out: &mut [u8], at: usize, name: u64) -> usize
     ensures { Emits out at (name_text name) result }
 {
-    if plain_length(name) == 0 {
-        return put_quoted(out, at, name);
+    match plain_length(name) {
+        Some(_) => put_packed(out, at, name),
+        None => put_quoted(out, at, name),
     }
-    put_packed(out, at, name)
 }
 
 // Any packed name, also one that needs quotes: by way of its text.
@@ -85,9 +87,9 @@ pub(crate) fn put_number(out: &mut [u8], at: usize, polymer: bool, number: u64) 
 pub(crate) fn put_coordinate(out: &mut [u8], at: usize, x: f64) -> usize
     ensures { printable x ≡ true → Emits out at (coordinate_text x) result }
 {
-    let printed = numbers::write_thousandths(out, at, x);
-    match printed {
-        Printed::BeyondReach => at,
-        Printed::Put(placed) => place_after(at, placed),
+    match numbers::write_thousandths(out, at, x) {
+        Ok(next) => next,
+        Err(PrintError::NoRoom(short)) => place_on(at, short.needed),
+        Err(PrintError::BeyondReach) => at,
     }
 }

@@ -1,4 +1,7 @@
-// How many bytes the text of each field of a row has, told without a buffer.
+// How many bytes the text of each field of a row has, told without a buffer: digits are only counted, which takes less time than to write
+// them.
+#![tactic(auto, using(crate::proofs::FieldsAreShort::short_fields), unfolding(crate::specs::Fields::sequence_text, crate::specs::Fields::group_text, crate::specs::Fields::number_text))]
+
 ghost use Rattle.std.specs.Prelude.{◌≡◌, true, ◌+◌, ◌≤◌, length};
 ghost use Rattle.model.specs.WellFormed.{is_near};
 ghost use Rattle.numbers.specs.Rounding.{printable};
@@ -26,8 +29,7 @@ pub(crate) fn sequence_length(sequence: u32) -> usize
 pub(crate) fn name_length(name: u64) -> usize
     ensures { FieldLength (name_text name) result }
 {
-    let n = plain_length(name);
-    if n != 0 {
+    if let Some(n) = plain_length(name) {
         return n;
     }
     let mut none = [0u8; 0];

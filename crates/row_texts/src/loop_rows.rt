@@ -10,11 +10,13 @@ use crate::fields::{
     put_code, put_coordinate, put_decimal, put_group, put_name, put_number, put_sequence,
     put_symbol,
 };
+use crate::row_ends::{past_atom_row, past_polymer_row};
 use rows::Point3;
 
 // What a row of the atom loop says.
 #[derive(Clone, Copy)]
 pub struct AtomRow {
+    // Beside the number and not in an Option with it: the theorems of the return trip speak of both in every row.
     pub polymer: bool,
     pub id: u64,
     pub element: u8,
@@ -24,7 +26,7 @@ pub struct AtomRow {
     pub entity: u64,
     // Its residue's place among the polymer residues of its chain, from 1; not asked for where the residue is none.
     pub number: u64,
-    // 0 for none.
+    // 0 for none, as in the keys of lent records.
     pub insertion_code: u8,
     pub position: Point3,
     // Moved up by 2 ^ 31.
@@ -103,9 +105,13 @@ fn put_author(out: &mut [u8], at: usize, row: AtomRow) -> usize
 }
 
 // Every coordinate has a text where the position is near enough, as in every well-formed model; else only the buffer's length is promised.
+// Where no byte of the buffer is left, the row is only measured.
 pub fn put_atom_row(out: &mut [u8], at: usize, row: AtomRow) -> usize
     ensures { (is_near row.position ≡ true → Emits out at (atom_text row) result) × (length out.new ≡ length out.old) }
 {
+    if out.len() <= at {
+        return past_atom_row(at, row);
+    }
     let at = put_labels(out, at, row);
     let at = put_numbering(out, at, row);
     let at = put_position(out, at, row);
@@ -115,6 +121,9 @@ pub fn put_atom_row(out: &mut [u8], at: usize, row: AtomRow) -> usize
 pub fn put_polymer_row(out: &mut [u8], at: usize, row: PolymerRow) -> usize
     ensures { Emits out at (polymer_text row) result }
 {
+    if out.len() <= at {
+        return past_polymer_row(at, row);
+    }
     let at = put_decimal(out, at, row.entity);
     let at = put_byte(out, at, b' ');
     let at = put_decimal(out, at, row.number);

@@ -1,26 +1,29 @@
-// A packed name put byte by byte, straight from its number.
-ghost use Rattle.std.specs.Prelude.{◌≡◌, ◌<◌, length};
+// A packed name put byte by byte, straight from its number: it is walked as a number, with no index.
+ghost use Rattle.std.specs.Prelude.{◌≡◌, length, IfSome};
 ghost use Rattle.names.specs.Packing.{unpacked};
 ghost use Rattle.row_texts.specs.Emitted.{Emits};
 ghost use Rattle.row_texts.specs.Fields.{name_text};
 
 use crate::emitting::put_byte;
 
-// How many bytes a packed name has, where each stands behind the blanks and the quotes in ASCII, so that it is written as it is; 0 where one
-// does not, or where there is none.
-pub(crate) fn plain_length(name: u64) -> usize
-    ensures { 0 < result → (name_text name ≡ unpacked name) × (result ≡ length (unpacked name)) }
+// How many bytes a packed name has, where each stands behind the blanks and the quotes in ASCII, so that it is written as it is. A name
+// without a byte is written in quotes.
+pub(crate) fn plain_length(name: u64) -> Option<usize>
+    ensures { IfSome result (λ n. (name_text name ≡ unpacked name) × (n ≡ length (unpacked name))) }
 {
+    if name == 0 {
+        return None;
+    }
     let mut rest = name;
     let mut n = 0;
     while rest != 0 {
         if names::first_byte(rest) <= b'\'' {
-            return 0;
+            return None;
         }
         rest = names::after_first(rest);
         n += 1;
     }
-    n
+    Some(n)
 }
 
 // Its bytes as they are.

@@ -2,16 +2,22 @@
 use mathlib.Core.Path.{◌≡◌, refl}
 use Prim.Native.Nat.{ℕ}
 use Prim.Native.String.{String}
+use Rattle.std.specs.Prelude.{Option, Some, None}
 use Rattle.ascii.specs.Bytes.{bytes}
 use Rattle.ascii.specs.Words.{same_bytes}
 use Rattle.tokens.specs.Items.{item_names, place_in, item_of}
 use Rattle.rows.specs.declared.columns.Columns.{Columns}
-use Rattle.rows.specs.Columns.{column_of, chosen, group, atom, residue, chain, sequence, insertion_code, x, y, z, occupancy, symbol}
+use Rattle.rows.specs.Columns.{absent, column_of, chosen, group, atom, residue, chain, sequence, insertion_code, x, y, z, occupancy, symbol}
 
 module _ (columns : Columns) where
+  -- the column at a place in the map; absent where there is none
+  abbrev in_place : Option ℕ → ℕ
+  in_place (Some item) = column_of columns item
+  in_place None = absent
+
   -- the column of the item of this name
   abbrev named : String → ℕ
-  named item = column_of columns (item_of (bytes item))
+  named item = in_place (item_of (bytes item))
 
   pub group_item : group columns ≡ named "_atom_site.group_PDB"
   unfolding item_names place_in same_bytes

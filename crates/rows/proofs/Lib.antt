@@ -1,8 +1,7 @@
 pub mod AuthBeforeLabel
-pub mod CaseLaws
 pub mod CellLaws
-pub mod ColumnLaws
 pub mod ColumnsByItem
+pub mod FurthestDecides
 pub mod LaterColumnCounts
 pub mod ReachLaws
 pub mod RowCases

@@ -2,6 +2,7 @@
 ghost use Rattle.std.specs.Prelude.{◌≡◌, ◌<◌};
 ghost use Rattle.rows.specs.Columns.{no_columns, with_column, column_of, is_absent, chosen, group, atom, residue, chain, sequence, insertion_code, x, y, z, occupancy, symbol};
 
+// A number and no Option: the map is its fifteen bytes, `no_columns` promises that each is 64, and a map of Options would be twice as long for each row.
 const ABSENT: u8 = 64;
 
 #[derive(Clone, Copy)]
@@ -25,9 +26,8 @@ pub fn with_column(columns: Columns, item: usize, column: u8) -> Columns
     let mut places = columns.places;
     if item < 15 {
         places[item] = column;
-        return Columns { places };
     }
-    columns
+    Columns { places }
 }
 
 pub(crate) fn is_absent(column: u8) -> bool
@@ -41,8 +41,7 @@ impl Columns {
         requires { item < 15 }
         ensures { result ≡ column_of self item }
     {
-        let places = self.places;
-        places[item]
+        self.places[item]
     }
 
     // The auth column where its header exists, whatever a row holds there; else the label column.
@@ -52,9 +51,10 @@ impl Columns {
     {
         let column = self.column(auth);
         if is_absent(column) {
-            return self.column(label);
+            self.column(label)
+        } else {
+            column
         }
-        column
     }
 
     pub(crate) fn group(self) -> u8

@@ -1,27 +1,36 @@
 // The fields of a row, taken out of its line: what the rules are asked of. Other formats give the same fields.
-ghost use Rattle.std.specs.Prelude.{◌≡◌, List, ℕ, ◌≤◌, ◌<◌, min, length, take};
+ghost use Rattle.std.specs.Prelude.{◌≡◌, List, ℕ, ◌≤◌, ◌<◌, min, length, take, option_copied};
 ghost use Rattle.tokens.specs.Longest.{longest};
-ghost use Rattle.tokens.specs.Split.{token_in, IsPart};
 ghost use Rattle.tokens.specs.Tokens.{token_at};
-ghost use Rattle.token_values.specs.Sequence.{sequence_of};
-ghost use Rattle.rows.specs.Fields.{name_of, chain_of, insertion_code_of, measure_of, InCell, hetatm_at, insertion_code_at, occupancy_at, element_at, labels_of, numbers_of, joined_of, fields_of};
+ghost use Rattle.rows.specs.Reach.{reason_of};
+ghost use Rattle.rows.specs.Fields.{name_of, chain_of, insertion_code_of, measure_of, InTokens, declared_at, hetatm_at, insertion_code_at, occupancy_at, element_at, fields_of};
 
 use crate::columns::{Columns, is_absent};
 use crate::reach::reach_of;
-use numbers::Number;
-use refusals::Column;
-use tokens::{LONGEST, Part};
+use numbers::NumberError;
+use refusals::{Column, Reason};
+use tokens::LONGEST;
 
 // Nearly every row is a line of at most so many bytes, for which less has to be cleared than for the longest.
 const SHORT: usize = 128;
 
-// Whether the row has all the columns that it must have, and reaches them.
+// Why a row is refused before its fields are asked for. Reason has more, and no row earns those here.
 #[derive(Clone, Copy)]
-pub enum Reach {
-    Whole,
+pub enum ReachError {
     // The first missing one.
     ColumnMissing(Column),
     Short,
+}
+
+impl From<ReachError> for Reason {
+    ghost from_gives = { λ e why. why ≡ reason_of e };
+
+    fn from(e: ReachError) -> Reason {
+        match e {
+            ReachError::ColumnMissing(column) => Reason::ColumnMissing(column),
+            ReachError::Short => Reason::RowShort,
+        }
+    }
 }
 
 // A name: its true length, and its first eight bytes as a number.
@@ -31,16 +40,16 @@ pub struct Name {
     pub packed: u64,
 }
 
+// What a token says of a number.
+pub(crate) type Number = Result<f64, NumberError>;
+
 // A number that may not be given: `.` or `?`, or no column.
-#[derive(Clone, Copy)]
-pub enum Measure {
-    Missing,
-    Given(Number),
-}
+pub type Measure = Option<Number>;
 
 #[derive(Clone, Copy)]
 pub struct Fields {
-    pub reach: Reach,
+    // Whether the row has all the columns that it must have, and reaches them.
+    pub reach: Result<(), ReachError>,
     pub hetatm: bool,
     pub atom: Name,
     pub residue: Name,
@@ -85,180 +94,94 @@ fn measure_of(token: &[u8]) -> Measure
     ensures { result ≡ measure_of token.now }
 {
     if token_values::is_missing(token) {
-        return Measure::Missing;
+        return None;
     }
-    Measure::Given(numbers::read_number(token))
+    Some(numbers::read_number(token))
 }
 
-// ---- the token at a column, out of the cell that the line's tokens were copied to
-
-fn part_at(cell: &[u8], places: &[usize], n: usize, column: u8) -> Part
-    ensures { IsPart cell.now (token_in cell.now places.now n column) result }
-{
-    tokens::part_of(cell, places, n, column as usize)
-}
-
-fn name_at(cell: &[u8], places: &[usize], n: usize, column: u8) -> Name
-    ensures { (line : List ℕ) → InCell line cell.now places.now n → result ≡ name_of (token_at line column) }
-{
-    let part = part_at(cell, places, n, column);
-    let start = part.start;
-    let end = part.end;
-    name_of(&cell[start..end])
-}
-
-fn chain_at(cell: &[u8], places: &[usize], n: usize, column: u8) -> Name
-    ensures { (line : List ℕ) → InCell line cell.now places.now n → result ≡ chain_of (token_at line column) }
-{
-    let part = part_at(cell, places, n, column);
-    let start = part.start;
-    let end = part.end;
-    chain_of(&cell[start..end])
-}
-
-fn sequence_at(cell: &[u8], places: &[usize], n: usize, column: u8) -> u32
-    ensures { (line : List ℕ) → InCell line cell.now places.now n → result ≡ sequence_of (token_at line column) }
-{
-    let part = part_at(cell, places, n, column);
-    let start = part.start;
-    let end = part.end;
-    token_values::sequence_of(&cell[start..end])
-}
-
-fn measure_at(cell: &[u8], places: &[usize], n: usize, column: u8) -> Measure
-    ensures { (line : List ℕ) → InCell line cell.now places.now n → result ≡ measure_of (token_at line column) }
-{
-    let part = part_at(cell, places, n, column);
-    let start = part.start;
-    let end = part.end;
-    measure_of(&cell[start..end])
-}
-
-fn hetatm_at(cell: &[u8], places: &[usize], n: usize, column: u8) -> bool
-    ensures { (line : List ℕ) → InCell line cell.now places.now n → result ≡ hetatm_at line column }
-{
-    if is_absent(column) {
-        return false;
-    }
-    let part = part_at(cell, places, n, column);
-    let start = part.start;
-    let end = part.end;
-    token_values::is_hetatm(&cell[start..end])
-}
-
-fn insertion_code_at(cell: &[u8], places: &[usize], n: usize, column: u8) -> u8
-    ensures { (line : List ℕ) → InCell line cell.now places.now n → result ≡ insertion_code_at line column }
-{
-    if is_absent(column) {
-        return 0;
-    }
-    let part = part_at(cell, places, n, column);
-    let start = part.start;
-    let end = part.end;
-    insertion_code_of(&cell[start..end])
-}
-
-fn occupancy_at(cell: &[u8], places: &[usize], n: usize, column: u8) -> Measure
-    ensures { (line : List ℕ) → InCell line cell.now places.now n → result ≡ occupancy_at line column }
-{
-    if is_absent(column) {
-        return Measure::Missing;
-    }
-    measure_at(cell, places, n, column)
-}
-
-fn element_at(cell: &[u8], places: &[usize], n: usize, column: u8) -> u8
-    ensures { (line : List ℕ) → InCell line cell.now places.now n → result ≡ element_at line column }
-{
-    if is_absent(column) {
-        return 0;
-    }
-    let part = part_at(cell, places, n, column);
-    let start = part.start;
-    let end = part.end;
-    names::element_of(&cell[start..end])
-}
-
-// What the atom is called, and its numbers: the fields are taken out in parts.
+// The tokens of a line, one behind the other in a cell that they were copied to.
 #[derive(Clone, Copy)]
-struct Labels {
-    atom: Name,
-    residue: Name,
-    chain: Name,
-    sequence: u32,
-    insertion_code: u8,
+struct Tokens<'a> {
+    cell: &'a [u8],
+    places: &'a [usize],
+    count: usize,
 }
 
-#[derive(Clone, Copy)]
-struct Numbers {
-    x: Measure,
-    y: Measure,
-    z: Measure,
-    occupancy: Measure,
-}
+impl<'a> Tokens<'a> {
+    fn at(self, column: u8) -> &'a [u8]
+        ensures { (line : List ℕ) → InTokens line self.entry → result.now ≡ token_at line column }
+    {
+        let part = tokens::part_of(self.cell, self.places, self.count, column as usize);
+        &self.cell[part.start..part.end]
+    }
 
-fn labels_in(columns: Columns, cell: &[u8], places: &[usize], n: usize) -> Labels
-    ensures { (line : List ℕ) → InCell line cell.now places.now n → result ≡ labels_of columns line }
-{
-    let atom = name_at(cell, places, n, columns.atom());
-    let residue = name_at(cell, places, n, columns.residue());
-    let chain = chain_at(cell, places, n, columns.chain());
-    let sequence = sequence_at(cell, places, n, columns.sequence());
-    let insertion_code = insertion_code_at(cell, places, n, columns.insertion_code());
-    Labels {
-        atom,
-        residue,
-        chain,
-        sequence,
-        insertion_code,
+    // The token at a column that the loop need not have; `None` where it has none.
+    fn declared(self, column: u8) -> Option<&'a [u8]>
+        ensures { (line : List ℕ) → InTokens line self.entry
+            → option_copied result ≡ declared_at line column }
+    {
+        if is_absent(column) {
+            return None;
+        }
+        Some(self.at(column))
     }
 }
 
-fn numbers_in(columns: Columns, cell: &[u8], places: &[usize], n: usize) -> Numbers
-    ensures { (line : List ℕ) → InCell line cell.now places.now n → result ≡ numbers_of columns line }
+#[tactic(auto, unfolding(crate::specs::Fields::hetatm_at))]
+fn hetatm_at(tokens: Tokens, column: u8) -> bool
+    ensures { (line : List ℕ) → InTokens line tokens.entry → result ≡ hetatm_at line column }
 {
-    let x = measure_at(cell, places, n, columns.x());
-    let y = measure_at(cell, places, n, columns.y());
-    let z = measure_at(cell, places, n, columns.z());
-    let occupancy = occupancy_at(cell, places, n, columns.occupancy());
-    Numbers { x, y, z, occupancy }
+    match tokens.declared(column) {
+        Some(token) => token_values::is_hetatm(token),
+        None => false,
+    }
 }
 
-fn joined(reach: Reach, hetatm: bool, labels: Labels, numbers: Numbers, element: u8) -> Fields
-    ensures { result ≡ joined_of reach hetatm labels numbers element }
+#[tactic(auto, unfolding(crate::specs::Fields::insertion_code_at))]
+fn insertion_code_at(tokens: Tokens, column: u8) -> u8
+    ensures { (line : List ℕ) → InTokens line tokens.entry → result ≡ insertion_code_at line column }
 {
-    let atom = labels.atom;
-    let residue = labels.residue;
-    let chain = labels.chain;
-    let x = numbers.x;
-    let y = numbers.y;
-    let z = numbers.z;
-    let occupancy = numbers.occupancy;
+    match tokens.declared(column) {
+        Some(token) => insertion_code_of(token),
+        None => 0,
+    }
+}
+
+#[tactic(auto, unfolding(crate::specs::Fields::occupancy_at))]
+fn occupancy_at(tokens: Tokens, column: u8) -> Measure
+    ensures { (line : List ℕ) → InTokens line tokens.entry → result ≡ occupancy_at line column }
+{
+    measure_of(tokens.declared(column)?)
+}
+
+#[tactic(auto, unfolding(crate::specs::Fields::element_at))]
+fn element_at(tokens: Tokens, column: u8) -> u8
+    ensures { (line : List ℕ) → InTokens line tokens.entry → result ≡ element_at line column }
+{
+    match tokens.declared(column) {
+        Some(token) => names::element_of(token),
+        None => 0,
+    }
+}
+
+#[tactic(auto, unfolding(crate::specs::Fields::fields_of))]
+fn fields_in(columns: Columns, tokens: Tokens) -> Fields
+    ensures { (line : List ℕ) → InTokens line tokens.entry → result ≡ fields_of columns line }
+{
     Fields {
-        reach,
-        hetatm,
-        atom,
-        residue,
-        chain,
-        sequence: labels.sequence,
-        insertion_code: labels.insertion_code,
-        x,
-        y,
-        z,
-        occupancy,
-        element,
+        reach: reach_of(columns, tokens.count),
+        hetatm: hetatm_at(tokens, columns.group()),
+        atom: name_of(tokens.at(columns.atom())),
+        residue: name_of(tokens.at(columns.residue())),
+        chain: chain_of(tokens.at(columns.chain())),
+        sequence: token_values::sequence_of(tokens.at(columns.sequence())),
+        insertion_code: insertion_code_at(tokens, columns.insertion_code()),
+        x: measure_of(tokens.at(columns.x())),
+        y: measure_of(tokens.at(columns.y())),
+        z: measure_of(tokens.at(columns.z())),
+        occupancy: occupancy_at(tokens, columns.occupancy()),
+        element: element_at(tokens, columns.symbol()),
     }
-}
-
-fn fields_in(columns: Columns, cell: &[u8], places: &[usize], n: usize) -> Fields
-    ensures { (line : List ℕ) → InCell line cell.now places.now n → result ≡ fields_of columns line }
-{
-    let reach = reach_of(columns, n);
-    let hetatm = hetatm_at(cell, places, n, columns.group());
-    let labels = labels_in(columns, cell, places, n);
-    let numbers = numbers_in(columns, cell, places, n);
-    let element = element_at(cell, places, n, columns.symbol());
-    joined(reach, hetatm, labels, numbers, element)
 }
 
 // The line is walked once, however many of its columns are needed. It has no more tokens than bytes, and no column is 256 or more.
@@ -266,25 +189,23 @@ fn fields_by(columns: Columns, line: &[u8], cell: &mut [u8], places: &mut [usize
     requires { (length line.now ≤ length cell.old) × (min 256 (length line.now) < length places.old) }
     ensures { result ≡ fields_of columns line.now }
 {
-    let n = tokens::split_mmcif_line(line, cell, places);
-    fields_in(columns, cell, places, n)
+    let count = tokens::split_mmcif_line(line, cell, places);
+    fields_in(
+        columns,
+        Tokens {
+            cell,
+            places,
+            count,
+        },
+    )
 }
 
-fn fields_of_short(columns: Columns, line: &[u8]) -> Fields
-    requires { length line.now ≤ 128 }
+fn fields_within<const BYTES: usize, const PLACES: usize>(columns: Columns, line: &[u8]) -> Fields
+    requires { (length line.now ≤ BYTES) × (BYTES ≤ longest) × (min 256 BYTES < PLACES) × (PLACES ≤ 257) }
     ensures { result ≡ fields_of columns line.now }
 {
-    let mut cell = [0u8; SHORT];
-    let mut places = [0usize; 129];
-    fields_by(columns, line, &mut cell, &mut places)
-}
-
-fn fields_of_long(columns: Columns, line: &[u8]) -> Fields
-    requires { length line.now ≤ longest }
-    ensures { result ≡ fields_of columns line.now }
-{
-    let mut cell = [0u8; LONGEST];
-    let mut places = [0usize; 257];
+    let mut cell = [0u8; BYTES];
+    let mut places = [0usize; PLACES];
     fields_by(columns, line, &mut cell, &mut places)
 }
 
@@ -293,10 +214,10 @@ pub fn fields_of(columns: Columns, line: &[u8]) -> Fields
     ensures { result ≡ fields_of columns (take longest line.now) }
 {
     if line.len() <= SHORT {
-        return fields_of_short(columns, line);
+        return fields_within::<SHORT, 129>(columns, line);
     }
     if line.len() <= LONGEST {
-        return fields_of_long(columns, line);
+        return fields_within::<LONGEST, 257>(columns, line);
     }
-    fields_of_long(columns, &line[0..LONGEST])
+    fields_within::<LONGEST, 257>(columns, &line[0..LONGEST])
 }

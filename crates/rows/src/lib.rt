@@ -8,6 +8,6 @@ mod rules;
 mod settings;
 
 pub use columns::{Columns, no_columns, with_column};
-pub use fields::{Fields, Measure, Name, Reach, fields_of};
-pub use rules::{Point3, Row, Site, row_of};
+pub use fields::{Fields, Measure, Name, ReachError, fields_of};
+pub use rules::{Point3, Site, row_of};
 pub use settings::{Settings, Unreadable, assuming};

@@ -1,10 +1,10 @@
 // Steps 1 to 3 of a row: which column is missing, and whether the row reaches all that it must.
 ghost use Rattle.std.specs.Prelude.{◌≡◌};
-ghost use Rattle.rows.specs.Reach.{required, optional, first_absent, farther, furthest, furthest_of, reach_of};
+ghost use Rattle.rows.specs.Reach.{required, optional, first_absent, missing_column, misses, is_short, reach_of};
 
 use crate::columns::{Columns, is_absent};
-use crate::fields::Reach;
-use refusals::column_at;
+use crate::fields::ReachError;
+use refusals::{Column, column_at};
 
 fn required_columns(columns: Columns) -> [u8; 7]
     ensures { result ≡ required columns }
@@ -31,71 +31,49 @@ fn optional_columns(columns: Columns) -> [u8; 4]
     ]
 }
 
-// The place of the first absent column, from 1; 0 where none is.
-fn first_absent(columns: [u8; 7]) -> u8
-    ensures { result ≡ first_absent 1 columns }
+// The place of the first absent column.
+#[tactic(auto, unfolding(crate::specs::Reach::first_absent))]
+fn first_absent(columns: &[u8]) -> Option<usize>
+    ensures { result ≡ first_absent 0 columns.now }
 {
-    let mut k = 0;
-    while k < 7 {
-        if is_absent(columns[k]) {
-            return (k + 1) as u8;
-        }
-        k += 1;
-    }
-    0
+    columns.iter().position(|column| is_absent(*column))
 }
 
-// The farther one of a column and one that may be absent.
-fn farther_of(far: u8, column: u8) -> u8
-    ensures { result ≡ farther far column }
+// The first column that a row must have and the loop does not.
+#[tactic(auto, using(crate::proofs::ReachLaws::absent_within), unfolding(crate::specs::Reach::missing_column))]
+fn missing_column(columns: Columns) -> Option<Column>
+    ensures { result ≡ missing_column columns }
 {
-    if is_absent(column) {
-        return far;
-    }
-    if far < column { column } else { far }
+    let place = first_absent(&required_columns(columns))?;
+    Some(column_at(place as u8))
 }
 
-// The furthest of a column and those that are declared.
-fn furthest_of(far: u8, columns: &[u8]) -> u8
-    ensures { result ≡ furthest far columns.now }
+// Whether a row of n tokens does not reach one of the columns that are declared.
+#[tactic(auto, unfolding(crate::specs::Reach::misses))]
+fn misses(n: usize, columns: &[u8]) -> bool
+    ensures { result ≡ misses n columns.now }
 {
-    let mut far = far;
-    let mut i = 0;
-    while i < columns.len() {
-        far = farther_of(far, columns[i]);
-        i += 1;
-    }
-    far
+    columns
+        .iter()
+        .any(|column| !is_absent(*column) && n <= *column as usize)
 }
 
-// The place of the first missing column, from 1; 0 where none is.
-fn missing_column(columns: Columns) -> u8
-    ensures { result ≡ first_absent 1 (required columns) }
+fn is_short(columns: Columns, n: usize) -> bool
+    ensures { result ≡ is_short columns n }
 {
-    first_absent(required_columns(columns))
+    misses(n, &required_columns(columns)) || misses(n, &optional_columns(columns))
 }
 
-// The furthest column that a row must reach.
-fn furthest_column(columns: Columns) -> u8
-    ensures { result ≡ furthest_of columns }
-{
-    let required = required_columns(columns);
-    let optional = optional_columns(columns);
-    let far = furthest_of(0, &required);
-    furthest_of(far, &optional)
-}
-
-// A row of n tokens is short exactly where it does not reach the furthest column that it must reach.
-pub(crate) fn reach_of(columns: Columns, n: usize) -> Reach
+// Whether a row of n tokens has all the columns that it must have, and reaches them and those that it must reach where they are declared.
+#[tactic(auto, unfolding(crate::specs::Reach::reach_of))]
+pub(crate) fn reach_of(columns: Columns, n: usize) -> Result<(), ReachError>
     ensures { result ≡ reach_of columns n }
 {
-    let missing = missing_column(columns);
-    if missing != 0 {
-        return Reach::ColumnMissing(column_at(missing - 1));
+    if let Some(column) = missing_column(columns) {
+        return Err(ReachError::ColumnMissing(column));
     }
-    let far = furthest_column(columns) as usize;
-    if n <= far {
-        return Reach::Short;
+    if is_short(columns, n) {
+        return Err(ReachError::Short);
     }
-    Reach::Whole
+    Ok(())
 }

@@ -1,10 +1,10 @@
-// The rules of a row, steps 1 to 7, over its fields: refused, skipped, or a site.
+// The rules of a row, steps 1 to 7, over its fields: why it is refused, or `None` where it is skipped, or a site.
 ghost use Rattle.std.specs.Prelude.{◌≡◌};
-ghost use Rattle.rows.specs.Rules.{too_long, named, unread, occupied, coordinate_of, located, reached, row_of};
+ghost use Rattle.rows.specs.Rules.{too_long, named, unread, occupancy_of, coordinate_of, position_of, row_of};
 
-use crate::fields::{Fields, Measure, Name, Reach};
+use crate::fields::{Fields, Measure, Name, Number};
 use crate::settings::{Settings, Unreadable};
-use numbers::Number;
+use numbers::NumberError;
 use refusals::{Axis, Label, Quantity, Reason};
 
 #[derive(Clone, Copy)]
@@ -29,19 +29,17 @@ pub struct Site {
     pub assumed: bool,
 }
 
+// An occupancy, and whether it was assumed.
 #[derive(Clone, Copy)]
-pub enum Row {
-    Refused(Reason),
-    Skipped,
-    Kept(Site),
+struct Occupancy {
+    value: f64,
+    assumed: bool,
 }
 
-// One of a position's three numbers, or why the row is refused for it.
-#[derive(Clone, Copy)]
-pub enum Coordinate {
-    Refused(Reason),
-    Value(f64),
-}
+const ASSUMED_ONE: Occupancy = Occupancy {
+    value: 1.0,
+    assumed: true,
+};
 
 fn too_long(name: Name) -> bool
     ensures { result ≡ too_long name }
@@ -50,113 +48,93 @@ fn too_long(name: Name) -> bool
 }
 
 // Step 7.
-fn named_row(f: Fields, position: Point3, occupancy: f64, assumed: bool) -> Row
-    ensures { result ≡ named f position occupancy assumed }
+#[tactic(auto, unfolding(crate::specs::Rules::named))]
+fn named(f: Fields, position: Point3, occupancy: Occupancy) -> Result<Option<Site>, Reason>
+    ensures { result ≡ named f position occupancy.value occupancy.assumed }
 {
-    let atom = f.atom;
-    let residue = f.residue;
-    let chain = f.chain;
-    if too_long(atom) {
-        return Row::Refused(Reason::NameTooLong(Label::Atom));
+    if too_long(f.atom) {
+        return Err(Reason::NameTooLong(Label::Atom));
     }
-    if too_long(residue) {
-        return Row::Refused(Reason::NameTooLong(Label::Residue));
+    if too_long(f.residue) {
+        return Err(Reason::NameTooLong(Label::Residue));
     }
-    if too_long(chain) {
-        return Row::Refused(Reason::NameTooLong(Label::Chain));
+    if too_long(f.chain) {
+        return Err(Reason::NameTooLong(Label::Chain));
     }
-    Row::Kept(Site {
-        chain: chain.packed,
+    Ok(Some(Site {
+        chain: f.chain.packed,
         sequence: f.sequence,
         insertion_code: f.insertion_code,
-        residue: residue.packed,
+        residue: f.residue.packed,
         hetatm: f.hetatm,
-        atom: atom.packed,
+        atom: f.atom.packed,
         element: f.element,
         position,
-        occupancy,
-        assumed,
-    })
+        occupancy: occupancy.value,
+        assumed: occupancy.assumed,
+    }))
 }
 
 // An occupancy outside the grammar.
-fn unread_row(unreadable: Unreadable, f: Fields, position: Point3) -> Row
-    ensures { result ≡ unread unreadable (named f position) }
+fn unread(unreadable: Unreadable) -> Occupancy
+    ensures { result ≡ unread unreadable }
 {
     match unreadable {
-        Unreadable::Assumed => named_row(f, position, 1.0, true),
+        Unreadable::Assumed => ASSUMED_ONE,
     }
 }
 
 // Step 6.
-fn occupied_row(settings: Settings, f: Fields, position: Point3) -> Row
-    ensures { result ≡ occupied settings f position }
+fn occupied(settings: Settings, occupancy: Measure) -> Result<Occupancy, Reason>
+    ensures { result ≡ occupancy_of settings occupancy }
 {
-    let occupancy = f.occupancy;
-    let unreadable = settings.occupancy;
     match occupancy {
-        Measure::Missing => named_row(f, position, 1.0, true),
-        Measure::Given(n) => match n {
-            Number::OutsideGrammar => unread_row(unreadable, f, position),
-            Number::BeyondReach => Row::Refused(Reason::BeyondReach(Quantity::Occupancy)),
-            Number::Value(v) => named_row(f, position, v, false),
-        },
+        None => Ok(ASSUMED_ONE),
+        Some(Err(NumberError::OutsideGrammar)) => Ok(unread(settings.occupancy)),
+        Some(Err(NumberError::BeyondReach)) => Err(Reason::BeyondReach(Quantity::Occupancy)),
+        Some(Ok(value)) => Ok(Occupancy {
+            value,
+            assumed: false,
+        }),
     }
 }
 
-fn coordinate_of(axis: Axis, n: Number) -> Coordinate
+// One of a position's three numbers.
+fn coordinate_of(axis: Axis, n: Number) -> Result<f64, Reason>
     ensures { result ≡ coordinate_of axis n }
 {
     match n {
-        Number::OutsideGrammar => Coordinate::Refused(Reason::OutsideGrammar(axis)),
-        Number::BeyondReach => Coordinate::Refused(Reason::BeyondReach(Quantity::Coordinate(axis))),
-        Number::Value(v) => Coordinate::Value(v),
+        Ok(value) => Ok(value),
+        Err(NumberError::OutsideGrammar) => Err(Reason::OutsideGrammar(axis)),
+        Err(NumberError::BeyondReach) => Err(Reason::BeyondReach(Quantity::Coordinate(axis))),
     }
 }
 
 // Step 5.
-fn located_row(settings: Settings, f: Fields, x: Number, y: Number, z: Number) -> Row
-    ensures { result ≡ located settings f x y z }
+fn located(x: Number, y: Number, z: Number) -> Result<Point3, Reason>
+    ensures { result ≡ position_of x y z }
 {
-    match coordinate_of(Axis::X, x) {
-        Coordinate::Refused(why) => Row::Refused(why),
-        Coordinate::Value(x) => match coordinate_of(Axis::Y, y) {
-            Coordinate::Refused(why) => Row::Refused(why),
-            Coordinate::Value(y) => match coordinate_of(Axis::Z, z) {
-                Coordinate::Refused(why) => Row::Refused(why),
-                Coordinate::Value(z) => occupied_row(settings, f, Point3 { x, y, z }),
-            },
-        },
-    }
+    let x = coordinate_of(Axis::X, x)?;
+    let y = coordinate_of(Axis::Y, y)?;
+    let z = coordinate_of(Axis::Z, z)?;
+    Ok(Point3 { x, y, z })
 }
 
-// Step 4.
-fn reached_row(settings: Settings, f: Fields) -> Row
-    ensures { result ≡ reached settings f }
-{
-    let x = f.x;
-    let y = f.y;
-    let z = f.z;
-    match x {
-        Measure::Missing => Row::Skipped,
-        Measure::Given(x) => match y {
-            Measure::Missing => Row::Skipped,
-            Measure::Given(y) => match z {
-                Measure::Missing => Row::Skipped,
-                Measure::Given(z) => located_row(settings, f, x, y, z),
-            },
-        },
-    }
-}
-
-// What becomes of a row: steps 1 to 3, and the others.
-pub fn row_of(settings: Settings, f: Fields) -> Row
+// What becomes of a row: the first of steps 1 to 7 that refuses it says why; one that lacks a coordinate is skipped; any other is kept as a site.
+#[tactic(auto, unfolding(crate::specs::Rules::row_of, crate::specs::Rules::reached, crate::specs::Rules::located, crate::specs::Rules::occupied))]
+pub fn row_of(settings: Settings, f: Fields) -> Result<Option<Site>, Reason>
     ensures { result ≡ row_of settings f }
 {
-    let reach = f.reach;
-    match reach {
-        Reach::ColumnMissing(column) => Row::Refused(Reason::ColumnMissing(column)),
-        Reach::Short => Row::Refused(Reason::RowShort),
-        Reach::Whole => reached_row(settings, f),
-    }
+    // 1 to 3
+    f.reach?;
+    // 4
+    let (Some(x), Some(y), Some(z)) = (f.x, f.y, f.z) else {
+        return Ok(None);
+    };
+    // 5
+    let position = located(x, y, z)?;
+    // 6
+    let occupancy = occupied(settings, f.occupancy)?;
+    // 7
+    named(f, position, occupancy)
 }

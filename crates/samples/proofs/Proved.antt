@@ -8,7 +8,7 @@ use Rattle.ascii.specs.Digits.{digit_run, all_digits, number_from}
 use Rattle.ascii.specs.Signs.{is_sign, after_sign}
 use Rattle.names.specs.declared.residues.StandardResidue.{StandardResidue}
 use Rattle.names.specs.declared.residues.StandardResidue.TheVariants.{HIS, HOH}
-use Rattle.names.specs.declared.table.Resolved.TheVariants.{Standard, Unresolved}
+use Rattle.std.specs.Prelude.{Some, None}
 use Rattle.names.specs.Packing.{packed_in, packed}
 use Rattle.names.specs.Table.{canonical, aliases, resolve_in, resolve_of}
 use Rattle.tokens.specs.Quote.{has, all_plain, quote_of}
@@ -49,8 +49,8 @@ table =
 holds : Sample → Type 0
 holds (line l ts) = tokens_of (bytes l) ≡ map bytes ts
 holds (sequence s n) = sequence_of (bytes s) ≡ n
-holds (residue s t r) = resolve_of (packed (bytes s)) ≡ Standard (packed (bytes t)) r
-holds (unresolved s) = resolve_of (packed (bytes s)) ≡ Unresolved
+holds (residue s t r) = resolve_of (packed (bytes s)) ≡ Some (record { name = packed (bytes t); residue = r })
+holds (unresolved s) = resolve_of (packed (bytes s)) ≡ None
 holds (quoted s t) = quote_of (bytes s) ≡ bytes t
 
 All : List Sample → Type 0

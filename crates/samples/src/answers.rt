@@ -1,9 +1,8 @@
 // A sample's line: its name, what reading the text answers, and where it matters a word on the records.
-use crate::say::{say, say_count, say_name, say_value};
+use crate::say::{say, say_name, say_value};
 use crate::text_read::{Reading, read};
 use crate::texts::put_atoms;
 use building::Counts;
-use readings::Answer;
 use refusals::Refusal;
 use std::io;
 
@@ -21,36 +20,32 @@ pub(crate) enum Word {
 
 // Chains, residues, atoms, rows, skipped, outdone, assumed.
 fn say_counts(rt: &impl Print, counts: Counts) -> io::Result<()> {
-    say(rt, b"read ")?;
-    say_count(rt, counts.chains)?;
-    say(rt, b" ")?;
-    say_count(rt, counts.residues)?;
-    say(rt, b" ")?;
-    say_count(rt, counts.atoms)?;
-    say(rt, b" ")?;
-    say_count(rt, counts.rows)?;
-    say(rt, b" ")?;
-    say_count(rt, counts.skipped)?;
-    say(rt, b" ")?;
-    say_count(rt, counts.outdone)?;
-    say(rt, b" ")?;
-    say_count(rt, counts.assumed)
+    print!(rt;
+        "read {} {} {} {} {} {} {}",
+        counts.chains,
+        counts.residues,
+        counts.atoms,
+        counts.rows,
+        counts.skipped,
+        counts.outdone,
+        counts.assumed
+    )
 }
 
 fn say_refusal(rt: &impl Print, why: Refusal) -> io::Result<()> {
     let reason = why.reason;
-    say(rt, b"refused ")?;
-    say_count(rt, reason.number() as usize)?;
-    say(rt, b" line ")?;
-    say_count(rt, why.line)?;
-    say(rt, b" detail ")?;
-    say_count(rt, reason.detail())
+    print!(rt;
+        "refused {} line {} detail {}",
+        reason.number(),
+        why.line,
+        reason.detail()
+    )
 }
 
-fn say_answer(rt: &impl Print, answer: Answer) -> io::Result<()> {
+fn say_answer(rt: &impl Print, answer: Result<Counts, Refusal>) -> io::Result<()> {
     match answer {
-        Answer::Read(counts) => say_counts(rt, counts),
-        Answer::Refused(why) => say_refusal(rt, why),
+        Ok(counts) => say_counts(rt, counts),
+        Err(why) => say_refusal(rt, why),
     }
 }
 
@@ -98,7 +93,11 @@ fn say_word(rt: &impl Print, reading: Reading, word: Word) -> io::Result<()> {
     }
 }
 
-pub(crate) fn say_sample(rt: &impl Print, name: &[u8], answer: Answer) -> io::Result<()> {
+pub(crate) fn say_sample(
+    rt: &impl Print,
+    name: &[u8],
+    answer: Result<Counts, Refusal>,
+) -> io::Result<()> {
     say(rt, name)?;
     say(rt, b": ")?;
     say_answer(rt, answer)
@@ -106,8 +105,7 @@ pub(crate) fn say_sample(rt: &impl Print, name: &[u8], answer: Answer) -> io::Re
 
 pub(crate) fn show(rt: &impl Print, name: &[u8], text: &[u8], word: Word) -> io::Result<()> {
     let reading = read(text);
-    let answer = reading.answer;
-    say_sample(rt, name, answer)?;
+    say_sample(rt, name, reading.answer)?;
     say_word(rt, reading, word)?;
     say(rt, b"\n")
 }

@@ -1,16 +1,15 @@
 // Numbers: the two limits of reach and the forms of the grammar, each read and printed with three places.
 use crate::say::{say, say_value};
-use numbers::Number;
+use numbers::NumberError;
 use std::io;
 
 fn show(rt: &impl Print, text: &[u8]) -> io::Result<()> {
     say(rt, text)?;
     say(rt, b" is ")?;
-    let n = numbers::read_number(text);
-    match n {
-        Number::OutsideGrammar => say(rt, b"outside the grammar")?,
-        Number::BeyondReach => say(rt, b"beyond reach")?,
-        Number::Value(x) => say_value(rt, x)?,
+    match numbers::read_number(text) {
+        Ok(x) => say_value(rt, x)?,
+        Err(NumberError::OutsideGrammar) => say(rt, b"outside the grammar")?,
+        Err(NumberError::BeyondReach) => say(rt, b"beyond reach")?,
     }
     say(rt, b"\n")
 }

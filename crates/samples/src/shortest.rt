@@ -4,57 +4,42 @@ ghost use Rattle.std.specs.Prelude.{◌≤◌};
 use crate::answers::say_sample;
 use crate::say::say;
 use crate::texts::put_atoms;
-use readings::Answer;
+use building::Counts;
+use model::{AtomsMut, ResiduesMut};
+use refusals::Refusal;
 use std::io;
 
 fn length_of(field: usize, shortest: usize, needed: usize) -> usize
     ensures { result ≤ needed }
 {
-    if field != shortest {
-        return needed;
+    if field == shortest {
+        needed.saturating_sub(1)
+    } else {
+        needed
     }
-    if needed == 0 {
-        return 0;
-    }
-    needed - 1
 }
 
-fn read(text: &[u8], shortest: usize) -> Answer {
-    let mut chains = [0u64; 2];
-    let mut residue_keys = [0u64; 3];
-    let mut residue_names = [0u64; 3];
-    let mut residue_codes = [0u8; 3];
-    let mut residue_categories = [0u8; 3];
-    let mut residue_positions = [0u8; 3];
-    let mut atom_keys = [0u64; 4];
-    let mut atom_names = [0u64; 4];
-    let mut elements = [0u8; 4];
-    let mut positions = [[0.0; 3]; 4];
-    let mut occupancies = [0.0; 4];
-    let n0 = length_of(0, shortest, 2);
-    let n1 = length_of(1, shortest, 3);
-    let n2 = length_of(2, shortest, 3);
-    let n3 = length_of(3, shortest, 3);
-    let n4 = length_of(4, shortest, 3);
-    let n5 = length_of(5, shortest, 3);
-    let n6 = length_of(6, shortest, 4);
-    let n7 = length_of(7, shortest, 4);
-    let n8 = length_of(8, shortest, 4);
-    let n9 = length_of(9, shortest, 4);
-    let n10 = length_of(10, shortest, 4);
+fn read(text: &[u8], shortest: usize) -> Result<Counts, Refusal> {
+    let mut chains = [0; 2];
+    let mut residues = ResiduesMut {
+        keys: &mut [0; 3][..length_of(1, shortest, 3)],
+        names: &mut [0; 3][..length_of(2, shortest, 3)],
+        codes: &mut [0; 3][..length_of(3, shortest, 3)],
+        categories: &mut [0; 3][..length_of(4, shortest, 3)],
+        positions: &mut [0; 3][..length_of(5, shortest, 3)],
+    };
+    let mut atoms = AtomsMut {
+        keys: &mut [0; 4][..length_of(6, shortest, 4)],
+        names: &mut [0; 4][..length_of(7, shortest, 4)],
+        elements: &mut [0; 4][..length_of(8, shortest, 4)],
+        positions: &mut [[0.0; 3]; 4][..length_of(9, shortest, 4)],
+        occupancies: &mut [0.0; 4][..length_of(10, shortest, 4)],
+    };
     reader::read_by_names(
         text,
-        &mut chains[0..n0],
-        &mut residue_keys[0..n1],
-        &mut residue_names[0..n2],
-        &mut residue_codes[0..n3],
-        &mut residue_categories[0..n4],
-        &mut residue_positions[0..n5],
-        &mut atom_keys[0..n6],
-        &mut atom_names[0..n7],
-        &mut elements[0..n8],
-        &mut positions[0..n9],
-        &mut occupancies[0..n10],
+        &mut chains[..length_of(0, shortest, 2)],
+        &mut residues,
+        &mut atoms,
         rows::assuming(),
     )
 }

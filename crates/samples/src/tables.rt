@@ -9,14 +9,12 @@ fn behind_line(table: &[u8], from: usize) -> usize
     requires { from < length table.now }
     ensures { (from < result) × (result ≤ length table.now) }
 {
-    let mut i = from;
-    while i < table.len() {
+    for i in from..table.len() {
         if table[i] == b'\n' {
             return i + 1;
         }
-        i += 1;
     }
-    i
+    table.len()
 }
 
 // The place behind the lines that begin with a blank.

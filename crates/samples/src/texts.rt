@@ -1,31 +1,15 @@
 // Texts made of parts, each put behind the other into a buffer.
 
-// Puts the byte at the place, if there is one; the place behind it.
-fn put_byte(out: &mut [u8], at: usize, byte: u8) -> usize {
-    if at < out.len() {
-        out[at] = byte;
-        return at + 1;
-    }
-    at
-}
-
+// Puts the part, where it fits; the place behind it.
 pub(crate) fn put(out: &mut [u8], at: usize, part: &[u8]) -> usize {
-    let mut place = at;
-    let mut i = 0;
-    while i < part.len() {
-        place = put_byte(out, place, part[i]);
-        i += 1;
-    }
-    place
+    ascii::put_text(part, out, at).unwrap_or(at)
 }
 
 // Puts the part so many times.
 pub(crate) fn repeat(out: &mut [u8], at: usize, part: &[u8], count: usize) -> usize {
     let mut place = at;
-    let mut left = count;
-    while 0 < left {
+    for _ in 0..count {
         place = put(out, place, part);
-        left -= 1;
     }
     place
 }

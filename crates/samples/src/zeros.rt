@@ -1,118 +1,47 @@
 // Whether records are zero past the counts.
 use building::Counts;
+use model::{AtomsMut, ResiduesMut};
 
 // Not -0.0, whose reciprocal is negative.
 fn is_zero(x: f64) -> bool {
     x == 0.0 && 0.0 < 1.0 / x
 }
 
-fn is_zero_point(point: [f64; 3]) -> bool {
-    is_zero(point[0]) && is_zero(point[1]) && is_zero(point[2])
+fn words_are_zero(words: &[u64], from: usize) -> bool {
+    words.iter().skip(from).all(|word| *word == 0)
 }
 
-fn u64_are_zero(words: &[u64; 8], from: usize) -> bool {
-    let mut i = from;
-    while i < 8 {
-        if words[i] != 0 {
-            return false;
-        }
-        i += 1;
-    }
-    true
+fn bytes_are_zero(bytes: &[u8], from: usize) -> bool {
+    bytes.iter().skip(from).all(|byte| *byte == 0)
 }
 
-fn u8_are_zero(bytes: &[u8; 8], from: usize) -> bool {
-    let mut i = from;
-    while i < 8 {
-        if bytes[i] != 0 {
-            return false;
-        }
-        i += 1;
-    }
-    true
+fn residues_are_zero(residues: &ResiduesMut<'_>, from: usize) -> bool {
+    words_are_zero(residues.keys, from)
+        && words_are_zero(residues.names, from)
+        && bytes_are_zero(residues.codes, from)
+        && bytes_are_zero(residues.categories, from)
+        && bytes_are_zero(residues.positions, from)
 }
 
-fn f64_are_zero(floats: &[f64; 8], from: usize) -> bool {
-    let mut i = from;
-    while i < 8 {
-        if !is_zero(floats[i]) {
-            return false;
-        }
-        i += 1;
-    }
-    true
-}
-
-fn points_are_zero(points: &[[f64; 3]; 8], from: usize) -> bool {
-    let mut i = from;
-    while i < 8 {
-        if !is_zero_point(points[i]) {
-            return false;
-        }
-        i += 1;
-    }
-    true
-}
-
-fn residues_are_zero(
-    keys: &[u64; 8],
-    names: &[u64; 8],
-    codes: &[u8; 8],
-    categories: &[u8; 8],
-    positions: &[u8; 8],
-    from: usize,
-) -> bool {
-    u64_are_zero(keys, from)
-        && u64_are_zero(names, from)
-        && u8_are_zero(codes, from)
-        && u8_are_zero(categories, from)
-        && u8_are_zero(positions, from)
-}
-
-fn atoms_are_zero(
-    keys: &[u64; 8],
-    names: &[u64; 8],
-    elements: &[u8; 8],
-    positions: &[[f64; 3]; 8],
-    occupancies: &[f64; 8],
-    from: usize,
-) -> bool {
-    u64_are_zero(keys, from)
-        && u64_are_zero(names, from)
-        && u8_are_zero(elements, from)
-        && points_are_zero(positions, from)
-        && f64_are_zero(occupancies, from)
+fn atoms_are_zero(atoms: &AtomsMut<'_>, from: usize) -> bool {
+    words_are_zero(atoms.keys, from)
+        && words_are_zero(atoms.names, from)
+        && bytes_are_zero(atoms.elements, from)
+        && atoms
+            .positions
+            .iter()
+            .skip(from)
+            .all(|point| point.iter().all(|x| is_zero(*x)))
+        && atoms.occupancies.iter().skip(from).all(|x| is_zero(*x))
 }
 
 pub(crate) fn are_zero(
-    chains: &[u64; 8],
-    residue_keys: &[u64; 8],
-    residue_names: &[u64; 8],
-    residue_codes: &[u8; 8],
-    residue_categories: &[u8; 8],
-    residue_positions: &[u8; 8],
-    atom_keys: &[u64; 8],
-    atom_names: &[u64; 8],
-    elements: &[u8; 8],
-    positions: &[[f64; 3]; 8],
-    occupancies: &[f64; 8],
+    chains: &[u64],
+    residues: &ResiduesMut<'_>,
+    atoms: &AtomsMut<'_>,
     counts: Counts,
 ) -> bool {
-    u64_are_zero(chains, counts.chains)
-        && residues_are_zero(
-            residue_keys,
-            residue_names,
-            residue_codes,
-            residue_categories,
-            residue_positions,
-            counts.residues,
-        )
-        && atoms_are_zero(
-            atom_keys,
-            atom_names,
-            elements,
-            positions,
-            occupancies,
-            counts.atoms,
-        )
+    words_are_zero(chains, counts.chains)
+        && residues_are_zero(residues, counts.residues)
+        && atoms_are_zero(atoms, counts.atoms)
 }

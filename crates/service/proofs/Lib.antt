@@ -1,3 +1,4 @@
+pub mod HeldAgain
 pub mod OwnRoom
 pub mod ServedFits
 pub mod ServingLaws

@@ -6,7 +6,9 @@ use lib.ListN.{length}
 use Rattle.rows.specs.declared.settings.Settings.{Settings}
 use Rattle.model.specs.Lent.{Lent, room_of}
 use Rattle.model.specs.declared.room.Room.{Room}
-use Rattle.results.specs.declared.answers.Answer.{Answer}
+use Rattle.std.specs.Prelude.{Result}
+use Rattle.refusals.specs.declared.reasons.Refusal.{Refusal}
+use Rattle.results.specs.declared.answers.Served.{Served}
 use Rattle.service.specs.Serving.{own_room, serve_of, answer_of, written_to, Serves, ServesOwn}
 
 pub own_room_lem : (l : Lent)
@@ -21,7 +23,7 @@ own_room_lem l chains keys names codes categories places atoms atom_names elemen
   atoms = min 1048576 (min (atoms i) (min (atom_names i) (min (elements i) (min (positions i) (occupancies i)))));
 }
 
-pub own_served : (settings : Settings) (l : Lent) {after : Lent} {text out : List ℕ} {answer : Answer} {bytes : List ℕ} → room_of l ≡ own_room → Serves settings l text out answer after bytes → ServesOwn settings text out answer bytes
+pub own_served : (settings : Settings) (l : Lent) {after : Lent} {text out : List ℕ} {answer : Result Served Refusal} {bytes : List ℕ} → room_of l ≡ own_room → Serves settings l text out answer after bytes → ServesOwn settings text out answer bytes
 own_served settings l {after} {text} {out} room s = record {
   answered = s.answered ∙ ap (λ (r : Room). answer_of (serve_of settings r (length out) text)) room;
   written = s.written ∙ ap (λ (r : Room). written_to out (serve_of settings r (length out) text)) room;

@@ -1,16 +1,17 @@
 // Text in, text out, over lent records.
 ghost use Rattle.std.specs.Prelude.{◌≡◌, true};
 ghost use Rattle.building.specs.Holds.{sizes_of};
-ghost use Rattle.field_slices.specs.Slice.{held};
-ghost use Rattle.model.specs.Lent.{passed, lent};
+ghost use Rattle.model.specs.LentNow.{lent_now, SameResidues, SameAtoms};
 ghost use Rattle.model.specs.WellFormed.{well_formed_in};
 ghost use Rattle.service.specs.Serving.{Serves, WritesOut};
 
 use building::{Counts, sizes_of};
+use field_slices::clear_from;
 use finishing::clear_records;
-use model::no_records;
+use model::{AtomsMut, Records, ResiduesMut, no_records};
+use reader::read_by_names;
 use refusals::Refusal;
-use results::Answer;
+use results::Served;
 use rows::Settings;
 use writer::write_well_formed;
 
@@ -18,62 +19,22 @@ use writer::write_well_formed;
 fn write_out(
     out: &mut [u8],
     chains: &mut [u64],
-    residue_keys: &mut [u64],
-    residue_names: &mut [u64],
-    residue_codes: &mut [u8],
-    residue_categories: &mut [u8],
-    residue_positions: &mut [u8],
-    atom_keys: &mut [u64],
-    atom_names: &mut [u64],
-    elements: &mut [u8],
-    positions: &mut [[f64; 3]],
-    occupancies: &mut [f64],
+    residues: &mut ResiduesMut<'_>,
+    atoms: &mut AtomsMut<'_>,
     counts: Counts,
-) -> Answer
-    requires { well_formed_in (passed chains residue_keys residue_names residue_codes residue_categories residue_positions
-        atom_keys atom_names elements positions occupancies) (sizes_of counts) ≡ true }
-    ensures { let l = lent chains residue_keys residue_names residue_codes residue_categories residue_positions atom_keys atom_names elements positions occupancies in
-        let o = held out in WritesOut l.entry counts o.entry result l.exit o.exit }
+) -> Result<Served, Refusal>
+    requires { well_formed_in (lent_now chains.old residues.old atoms.old) (sizes_of counts) ≡ true }
+    ensures same_residues { SameResidues residues.old residues.new }
+    ensures same_atoms { SameAtoms atoms.old atoms.new }
+    ensures writes { WritesOut (lent_now chains.old residues.old atoms.old) counts out.old result (lent_now chains.new residues.new atoms.new) out.new }
 {
-    let written = write_well_formed(
-        chains,
-        residue_keys,
-        residue_names,
-        residue_codes,
-        residue_categories,
-        residue_positions,
-        atom_keys,
-        atom_names,
-        elements,
-        positions,
-        occupancies,
-        sizes_of(counts),
-        out,
-    );
-    match written {
-        writer::Answer::Written(n) => Answer::Served {
-            written: n,
-            counts: counts,
-        },
-        writer::Answer::Refused(why) => {
-            field_slices::clear_u64_from(chains, 0);
-            clear_records(
-                residue_keys,
-                residue_names,
-                residue_codes,
-                residue_categories,
-                residue_positions,
-                atom_keys,
-                atom_names,
-                elements,
-                positions,
-                occupancies,
-                no_records(),
-            );
-            Answer::Refused(Refusal {
-                line: 0,
-                reason: why,
-            })
+    let records = Records::of_lent(chains, residues, atoms);
+    match write_well_formed(records, sizes_of(counts), out) {
+        Ok(written) => Ok(Served { written, counts }),
+        Err(reason) => {
+            clear_from(chains, 0, 0);
+            clear_records(residues, atoms, no_records());
+            Err(Refusal { line: 0, reason })
         }
     }
 }
@@ -83,52 +44,14 @@ pub fn serve(
     text: &[u8],
     out: &mut [u8],
     chains: &mut [u64],
-    residue_keys: &mut [u64],
-    residue_names: &mut [u64],
-    residue_codes: &mut [u8],
-    residue_categories: &mut [u8],
-    residue_positions: &mut [u8],
-    atom_keys: &mut [u64],
-    atom_names: &mut [u64],
-    elements: &mut [u8],
-    positions: &mut [[f64; 3]],
-    occupancies: &mut [f64],
+    residues: &mut ResiduesMut<'_>,
+    atoms: &mut AtomsMut<'_>,
     settings: Settings,
-) -> Answer
-    ensures { let l = lent chains residue_keys residue_names residue_codes residue_categories residue_positions atom_keys atom_names elements positions occupancies in
-        let o = held out in Serves settings l.entry text.now o.entry result l.exit o.exit }
+) -> Result<Served, Refusal>
+    ensures same_residues { SameResidues residues.old residues.new }
+    ensures same_atoms { SameAtoms atoms.old atoms.new }
+    ensures serves { Serves settings (lent_now chains.old residues.old atoms.old) text.now out.old result (lent_now chains.new residues.new atoms.new) out.new }
 {
-    let answer = reader::read_by_names(
-        text,
-        chains,
-        residue_keys,
-        residue_names,
-        residue_codes,
-        residue_categories,
-        residue_positions,
-        atom_keys,
-        atom_names,
-        elements,
-        positions,
-        occupancies,
-        settings,
-    );
-    match answer {
-        readings::Answer::Refused(why) => Answer::Refused(why),
-        readings::Answer::Read(counts) => write_out(
-            out,
-            chains,
-            residue_keys,
-            residue_names,
-            residue_codes,
-            residue_categories,
-            residue_positions,
-            atom_keys,
-            atom_names,
-            elements,
-            positions,
-            occupancies,
-            counts,
-        ),
-    }
+    let counts = read_by_names(text, chains, residues, atoms, settings)?;
+    write_out(out, chains, residues, atoms, counts)
 }

@@ -5,12 +5,12 @@ use mathlib.Core.List.{List, [], ◌∷◌}
 use Prim.Native.Nat.{ℕ, suc, ◌^◌, ◌≤◌, ◌<◌}
 use native.Mathlib.Omega.{arith}
 use lib.ListN.{length, length-append}
+use Rattle.std.specs.Prelude.{Option, Some, None, Result, Ok, Err}
+use Rattle.refusals.specs.declared.reasons.Reason.{Reason}
 use Rattle.lines.specs.Lines.{lines_of}
 use Rattle.lines.proofs.LinesFitTheText.{lines_fit}
 use Rattle.rows.specs.Fields.{fields_of}
 use Rattle.rows.specs.Rules.{row_of}
-use Rattle.rows.specs.declared.rules.Row.{Row}
-use Rattle.rows.specs.declared.rules.Row.TheVariants.{Refused, Skipped, Kept}
 use Rattle.rows.specs.declared.rules.Site.{Site}
 use Rattle.rows.specs.declared.settings.Settings.{Settings}
 use Rattle.line_states.specs.Heads.{start_heads}
@@ -28,11 +28,11 @@ use Rattle.mmcif.specs.Rows.{taken_by, rows_from, rows_of}
 use Rattle.reader.specs.Reading.{read_of}
 use Rattle.reader.proofs.ReadByTheRows.{read_exactly, read_by_the_rows}
 
-one_row : (does : Does) (row : Row) → length (taken_by does row) ≤ 1
+one_row : (does : Does) (row : Result (Option Site) Reason) → length (taken_by does row) ≤ 1
 one_row Nothing row = omega arith
-one_row Does.Row (Refused why) = omega arith
-one_row Does.Row Skipped = omega arith
-one_row Does.Row (Kept s) = omega arith
+one_row Does.Row (Err why) = omega arith
+one_row Does.Row (Ok None) = omega arith
+one_row Does.Row (Ok (Some s)) = omega arith
 one_row TooManyHeaders row = omega arith
 
 rows_fit : (settings : Settings) (heads : Heads) (lines : List (List ℕ)) → length (rows_from settings heads lines) ≤ length lines

@@ -2,10 +2,11 @@
 use mathlib.Core.Path.{◌≡◌, refl}
 use mathlib.Core.Bool.{Bool, true, false, cond}
 use mathlib.Core.List.{List}
-use Prim.Native.Nat.{ℕ, zero, suc}
+use Prim.Native.Nat.{ℕ}
 use native.Mathlib.Omega.{arith}
 use lib.Dec.{leb}
 use lib.ListN.{length}
+use Rattle.std.specs.Prelude.{Option, Some, None}
 use Rattle.refusals.specs.declared.reasons.Reason.TheVariants.{OutputTooShort}
 use Rattle.rows.specs.declared.settings.Settings.{Settings}
 use Rattle.building.specs.declared.sites.Counts.{Counts}
@@ -31,9 +32,9 @@ never_12 settings room size text = go (read_of settings room text) refl
     by_size m counts true e = omega arith
     by_size m counts false e = omega arith
 
-    by_atom : (m : Model) (counts : Counts) (id : ℕ) → status_in (answer_of (by_writing m counts (written_but id size m))) ≡ 12 → ⊥
-    by_atom m counts zero e = by_size m counts (leb (length (text_of m)) size) e
-    by_atom m counts (suc id) e = omega arith
+    by_atom : (m : Model) (counts : Counts) (id : Option ℕ) → status_in (answer_of (by_writing m counts (written_but id size m))) ≡ 12 → ⊥
+    by_atom m counts None e = by_size m counts (leb (length (text_of m)) size) e
+    by_atom m counts (Some id) e = omega arith
 
     go : (r : Reading) → read_of settings room text ≡ r → status_in (answer_of (by_reading size r)) ≡ 12 → ⊥
     go (read m counts) q e = by_atom m counts (unwritable_in m) e

@@ -1,13 +1,14 @@
 -- The seven numbers are below 2 ^ 32, so that the four bytes of each tell it whole: lines and rows by the length of the text that was read, what is written by the
 -- length of the longest text.
-use Prim.{tt}
+use Prim.{Unit, tt}
 use mathlib.Core.Path.{◌≡◌, refl, subst}
 use mathlib.Core.Bool.{Bool, true, false, cond}
 use mathlib.Core.List.{List, [], ◌∷◌}
-use Prim.Native.Nat.{ℕ, zero, suc, ◌+◌, ◌^◌, ◌≤◌, ◌<◌}
+use Prim.Native.Nat.{ℕ, suc, ◌+◌, ◌^◌, ◌≤◌, ◌<◌}
 use native.Mathlib.Omega.{arith}
 use lib.Dec.{leb}
 use lib.ListN.{length, replicate, length-replicate}
+use Rattle.std.specs.Prelude.{Option, Some, None}
 use Rattle.refusals.specs.declared.reasons.Reason.TheVariants.{OutputTooShort}
 use Rattle.rows.specs.declared.settings.Settings.{Settings}
 use Rattle.field_slices.specs.Clearing.{zero_float, zero_point}
@@ -38,21 +39,25 @@ abbrev Small : ℕ → Type 0
 Small n = n < 2 ^ 32
 
 -- ---- what is written
-unwritable_within : (m : Model) (id : ℕ) (atoms : List AtomRecord) → first_unwritable m id atoms ≤ id + length atoms
+abbrev Below : ℕ → Option ℕ → Type 0
+Below n None = Unit {0}
+Below n (Some id) = id < n
+
+unwritable_within : (m : Model) (id n : ℕ) (atoms : List AtomRecord) → id + length atoms ≤ n → Below n (first_unwritable m id atoms)
 unfolding first_unwritable
-unwritable_within m id [] = omega arith
-unwritable_within m id (a ∷ atoms) = go (is_unwritable m a) (unwritable_within m (suc id) atoms)
+unwritable_within m id n [] h = tt
+unwritable_within m id n (a ∷ atoms) h = go (is_unwritable m a) (unwritable_within m (suc id) n atoms (omega arith))
   where
-    go : (t : Bool) → first_unwritable m (suc id) atoms ≤ suc id + length atoms → cond t id (first_unwritable m (suc id) atoms) ≤ id + suc (length atoms)
-    go true h = omega arith
-    go false h = omega arith
+    go : (t : Bool) → Below n (first_unwritable m (suc id) atoms) → Below n (cond t (Some id) (first_unwritable m (suc id) atoms))
+    go true w = omega arith
+    go false w = w
 
 module _ (settings : Settings) (l : Lent) (size : ℕ) (text : List ℕ) where
   abbrev AllSmall : Reading → Type 0
   AllSmall reading = All Small (numbers_in (answer_of (by_reading size reading)))
 
   written_small : (m : Model) (counts : Counts) → read_of settings (room_of l) text ≡ read m counts → AllSmall (read m counts)
-  written_small m counts e = by_atom (unwritable_in m) (omega (arith, unwritable_within m 1 m.atoms, (within settings l text m counts e).2, (room_within l).sizes.2))
+  written_small m counts e = by_atom (unwritable_in m) (unwritable_within m 1 (2 ^ 32) m.atoms (omega (arith, (within settings l text m counts e).2, (room_within l).sizes.2)))
     where
       many : (counts.rows < 2 ^ 32) × (counts.skipped < 2 ^ 32) × (counts.outdone < 2 ^ 32) × (counts.assumed < 2 ^ 32)
       many = counts_are_small settings (room_of l) text m counts e
@@ -64,9 +69,9 @@ module _ (settings : Settings) (l : Lent) (size : ℕ) (text : List ℕ) where
       by_size true = (omega arith, (omega arith, (short, (many.0, (many.1, (many.2, (many.3, tt)))))))
       by_size false = (omega arith, (short, (omega arith, (omega arith, (omega arith, (omega arith, (omega arith, tt)))))))
 
-      by_atom : (id : ℕ) → Small id → All Small (numbers_in (answer_of (by_writing m counts (written_but id size m))))
-      by_atom zero h = by_size (leb (length (text_of m)) size)
-      by_atom (suc id) h = (omega arith, (h, (omega arith, (omega arith, (omega arith, (omega arith, (omega arith, tt)))))))
+      by_atom : (id : Option ℕ) → Below (2 ^ 32) id → All Small (numbers_in (answer_of (by_writing m counts (written_but id size m))))
+      by_atom None h = by_size (leb (length (text_of m)) size)
+      by_atom (Some id) h = (omega arith, (h, (omega arith, (omega arith, (omega arith, (omega arith, (omega arith, tt)))))))
 
   -- ---- the theorem
   pub numbers_fit : All (λ b. b < 256) text → All (λ n. n < 2 ^ 32) (numbers_in (answer_of (serve_of settings (room_of l) size text)))

@@ -3,11 +3,12 @@
 use mathlib.Core.Path.{◌≡◌, ap, ◌∙◌, subst}
 use mathlib.Core.Bool.{Bool, true, false, cond}
 use mathlib.Core.List.{List, [], ◌∷◌}
-use mathlib.Core.Option.{some}
+use mathlib.Core.Option as math
 use Prim.Native.Nat.{ℕ, suc, ◌+◌, ◌^◌, ◌≤◌, ◌<◌}
 use native.Mathlib.Omega.{arith}
 use lib.Dec.{eqb}
 use lib.ListN.{length, length-append}
+use Rattle.std.specs.Prelude.{Option, None, Some}
 use Rattle.refusals.specs.Details.{column_number, axis_number, quantity_number, label_number, kind_number}
 use Rattle.refusals.specs.Reasons.{number_of, detail_of}
 use Rattle.refusals.specs.declared.details.Axis.{Axis}
@@ -25,9 +26,9 @@ use Rattle.refusals.specs.declared.reasons.Reason.TheVariants.{TextTooLong, Outs
 use Rattle.refusals.specs.declared.reasons.Refusal.{Refusal}
 use Rattle.ascii.specs.Bytes.{first}
 use Rattle.rows.specs.declared.settings.Settings.{Settings}
+use Rattle.lines.specs.declared.domain.Outside.{Outside}
 use Rattle.lines.specs.Domain.{is_allowed, line_after, outside_from}
 use Rattle.lines.specs.Lines.{lines_of}
-use Rattle.lines.specs.declared.domain.Outside.TheVariants.{At}
 use Rattle.lines.proofs.LinesFitTheText.{lines_fit}
 use Rattle.model.specs.Finished.{unknown_in, model_from, unless, finished_of}
 use Rattle.model.specs.Fold.{State}
@@ -47,7 +48,15 @@ abbrev Small : Refusal → Type 0
 Small why = (why.line < 2 ^ 32) × (detail_of why.reason < 2 ^ 32)
 
 -- ---- 2: a byte of the text, at most one line further for each before it
-outside_within : (from line byte : ℕ) (text : List ℕ) → outside_from from text ≡ At line byte → All (λ b. b < 256) text → (line ≤ from + length text) × (byte < 256)
+abbrev line_in : Option Outside → ℕ
+line_in None = 0
+line_in (Some o) = o.line
+
+abbrev byte_in : Option Outside → ℕ
+byte_in None = 0
+byte_in (Some o) = o.byte
+
+outside_within : (from line byte : ℕ) (text : List ℕ) → outside_from from text ≡ Some (record { line = line; byte = byte }) → All (λ b. b < 256) text → (line ≤ from + length text) × (byte < 256)
 unfolding outside_from
 outside_within from line byte [] e h = let z : ◌≡◌ {A = ℕ} 0 1 = cc in absurd (omega arith)
 outside_within from line byte (b ∷ bs) e h = go (is_allowed b (first bs)) e (outside_within (line_after from b) line byte bs)
@@ -56,13 +65,13 @@ outside_within from line byte (b ∷ bs) e h = go (is_allowed b (first bs)) e (o
     after true = omega arith
     after false = omega arith
 
-    go : (t : Bool) → cond t (outside_from (line_after from b) bs) (At from b) ≡ At line byte
-        → (outside_from (line_after from b) bs ≡ At line byte → All (λ b. b < 256) bs → (line ≤ line_after from b + length bs) × (byte < 256))
+    go : (t : Bool) → cond t (outside_from (line_after from b) bs) (Some (record { line = from; byte = b })) ≡ Some (record { line = line; byte = byte })
+        → (outside_from (line_after from b) bs ≡ Some (record { line = line; byte = byte }) → All (λ b. b < 256) bs → (line ≤ line_after from b + length bs) × (byte < 256))
         → (line ≤ from + suc (length bs)) × (byte < 256)
     go true e later = let r = later e h.1 in (omega (arith, after (eqb b 10)), r.1)
     go false e later =
-        let line-is : from ≡ line = cc in
-        let byte-is : b ≡ byte = cc in
+        let line-is : from ≡ line = ap line_in e in
+        let byte-is : b ≡ byte = ap byte_in e in
         (omega arith, subst (λ (n : ℕ). n < 256) byte-is h.0)
 
 -- ---- 3 to 10: what is named is one of a few
@@ -115,7 +124,7 @@ module _ (settings : Settings) (l : Lent) (text : List ℕ) where
   room = room_of l
 
   -- ---- 11
-  place_small : (st : State) (place : ℕ) → ReadInto settings room text st → unknown_in st.residues ≡ some place → place < 2 ^ 32
+  place_small : (st : State) (place : ℕ) → ReadInto settings room text st → unknown_in st.residues ≡ math.some place → place < 2 ^ 32
   unfolding finished_of
   place_small st place r u =
       let f = (unknown_is_first st place).0 (ap (λ o. unless o (model_from st)) u) in

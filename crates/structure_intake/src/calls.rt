@@ -1,11 +1,13 @@
 // The service through C conventions: each slice is a pointer and a length. Nothing is kept after a call, and nothing is allocated.
-ghost use Rattle.std.specs.Prelude.{◌≡◌, ◌≤◌, length};
-ghost use Rattle.chains.specs.Names.{first_at, names_at};
+ghost use Rattle.std.specs.Prelude.{◌≡◌, ◌≤◌, length, take};
+ghost use Rattle.chains.specs.Names.{names_at};
 ghost use Rattle.field_slices.specs.Slice.{held};
 ghost use Rattle.model.specs.Lent.{lent_by};
+ghost use Rattle.model.specs.LentNow.{lent_now, SameResidues, SameAtoms};
 ghost use Rattle.structure_intake.specs.Calls.{renewed_in, Calls, CallsOwn};
 
 use chains::{Chain, Names, no_names, store_names};
+use model::{AtomsMut, ResiduesMut};
 use results::{is_whole, put_numbers, status_of};
 use service::{serve, serve_own};
 
@@ -29,21 +31,13 @@ fn call_first(
     res: &mut [u8],
     names: &mut [u64],
     size: usize,
-    residue_keys: &mut [u64],
-    residue_names: &mut [u64],
-    residue_codes: &mut [u8],
-    residue_categories: &mut [u8],
-    residue_positions: &mut [u8],
-    atom_keys: &mut [u64],
-    atom_names: &mut [u64],
-    elements: &mut [u8],
-    positions: &mut [[f64; 3]],
-    occupancies: &mut [f64],
+    residues: &mut ResiduesMut<'_>,
+    atoms: &mut AtomsMut<'_>,
 ) -> u32
     requires { size ≤ length names.old }
-    ensures { let l = lent_by (first_at size names) residue_keys residue_names residue_codes residue_categories residue_positions
-        atom_keys atom_names elements positions occupancies in
-        let o = held out in let n = held res in Calls l.entry text.now o.entry n.entry result l.exit o.exit n.exit }
+    ensures same_residues { SameResidues residues.old residues.new }
+    ensures same_atoms { SameAtoms atoms.old atoms.new }
+    ensures calls { Calls (lent_now (take size names.old) residues.old atoms.old) text.now out.old res.old result (lent_now (take size names.new) residues.new atoms.new) out.new res.new }
 {
     if !is_whole(res) {
         return BAD_RESULT;
@@ -52,16 +46,8 @@ fn call_first(
         text,
         out,
         &mut names[0..size],
-        residue_keys,
-        residue_names,
-        residue_codes,
-        residue_categories,
-        residue_positions,
-        atom_keys,
-        atom_names,
-        elements,
-        positions,
-        occupancies,
+        residues,
+        atoms,
         rows::assuming(),
     );
     put_numbers(res, answer);
@@ -75,59 +61,35 @@ fn call_into(
     res: &mut [u8],
     names: &mut Names,
     size: usize,
-    residue_keys: &mut [u64],
-    residue_names: &mut [u64],
-    residue_codes: &mut [u8],
-    residue_categories: &mut [u8],
-    residue_positions: &mut [u8],
-    atom_keys: &mut [u64],
-    atom_names: &mut [u64],
-    elements: &mut [u8],
-    positions: &mut [[f64; 3]],
-    occupancies: &mut [f64],
+    residues: &mut ResiduesMut<'_>,
+    atoms: &mut AtomsMut<'_>,
 ) -> u32
-    ensures { let l = lent_by (first_at size names) residue_keys residue_names residue_codes residue_categories residue_positions
-        atom_keys atom_names elements positions occupancies in
-        let o = held out in let n = held res in Calls l.entry text.now o.entry n.entry result l.exit o.exit n.exit }
+    ensures same_residues { SameResidues residues.old residues.new }
+    ensures same_atoms { SameAtoms atoms.old atoms.new }
+    ensures calls { Calls (lent_now (take size names.old) residues.old atoms.old) text.now out.old res.old result (lent_now (take size names.new) residues.new atoms.new) out.new res.new }
 {
     let size = chains::kept(size);
-    call_first(
-        text,
-        out,
-        res,
-        names,
-        size,
-        residue_keys,
-        residue_names,
-        residue_codes,
-        residue_categories,
-        residue_positions,
-        atom_keys,
-        atom_names,
-        elements,
-        positions,
-        occupancies,
-    )
+    call_first(text, out, res, names, size, residues, atoms)
 }
 
 // The service in the caller's records: the room is by the shortest slice of each kind. After 0 they hold the model, after 26 all is as it was,
 // and after any other refusal every record is zero. The chain records are written last, from an array of names.
 #[unsafe(no_mangle)]
-pub extern "C" fn structure_intake_lent(
+pub extern "C" fn structure_intake_lent<'a>(
     text: &[u8],
     out: &mut [u8],
     res: &mut [u8],
     chains: &mut [Chain],
-    residue_keys: &mut [u64],
-    residue_names: &mut [u64],
-    residue_codes: &mut [u8],
-    residue_categories: &mut [u8],
-    residue_positions: &mut [u8],
-    atom_keys: &mut [u64],
-    atom_names: &mut [u64],
-    elements: &mut [u8],
-    positions: &mut [[f64; 3]],
-    occupancies: &mut [f64],
+    residue_keys: &'a mut [u64],
+    residue_names: &'a mut [u64],
+    residue_codes: &'a mut [u8],
+    residue_categories: &'a mut [u8],
+    residue_positions: &'a mut [u8],
+    atom_keys: &'a mut [u64],
+    atom_names: &'a mut [u64],
+    elements: &'a mut [u8],
+    positions: &'a mut [[f64; 3]],
+    occupancies: &'a mut [f64],
 ) -> u32
     ensures { let l = lent_by (names_at chains) residue_keys residue_names residue_codes residue_categories residue_positions atom_keys atom_names elements positions occupancies in
         let o = held out in let n = held res in Calls l.entry text.now o.entry n.entry result l.exit o.exit n.exit }
@@ -135,23 +97,21 @@ pub extern "C" fn structure_intake_lent(
     let mut names = no_names();
     let size = chains.len();
     let count = renewed(res.len(), size);
-    let status = call_into(
-        text,
-        out,
-        res,
-        &mut names,
-        size,
-        residue_keys,
-        residue_names,
-        residue_codes,
-        residue_categories,
-        residue_positions,
-        atom_keys,
-        atom_names,
+    let mut residues = ResiduesMut {
+        keys: residue_keys,
+        names: residue_names,
+        codes: residue_codes,
+        categories: residue_categories,
+        positions: residue_positions,
+    };
+    let mut atoms = AtomsMut {
+        keys: atom_keys,
+        names: atom_names,
         elements,
         positions,
         occupancies,
-    );
+    };
+    let status = call_into(text, out, res, &mut names, size, &mut residues, &mut atoms);
     store_names(chains, &names, count);
     status
 }

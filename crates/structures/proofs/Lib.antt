@@ -1,4 +1,5 @@
 pub mod FrontLaws
+pub mod SlicesBack
 pub mod StoredIsHeld
 pub mod WithChains
 pub mod WriteTaken

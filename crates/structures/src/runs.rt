@@ -1,76 +1,45 @@
 // The reading of the lines over chain records, run by run: the chain of a run is looked for in the records, or appended to them, and its rows are put in by its place.
-ghost use Rattle.std.specs.Prelude.{◌≡◌};
 ghost use Rattle.model.specs.Fold.{start};
-ghost use Rattle.building.specs.Holds.{records_by};
+ghost use Rattle.model.specs.LentNow.{SameAtoms};
+ghost use Rattle.building.specs.Holds.{records_now};
+ghost use Rattle.building.specs.Kinds.{KeepsResidues};
 ghost use Rattle.acts.specs.Making.{made};
 ghost use Rattle.acts.specs.Standing.{ahead, Passes};
 ghost use Rattle.mmcif.specs.Acts.{acts_of};
-ghost use Rattle.mmcif.specs.Stages.{met};
-ghost use Rattle.chains.specs.Names.{names_at};
+ghost use Rattle.chains.specs.Names.{names_in};
 
-use acts::{Halt, Standing};
+use acts::Standing;
 use chains::{Chain, place_in};
-use mmcif::{Stage, chain_in, first_row, take_run, waits};
-use model::Room;
+use mmcif::{first_row, take_run};
+use model::{AtomsMut, ResiduesMut, Room};
+use refusals::Refusal;
 use rows::Settings;
 
-// How many chains were met.
-fn met(stage: Stage) -> usize
-    ensures { result ≡ met stage }
-{
-    let standing = stage.standing;
-    let held = standing.held;
-    let counts = held.counts;
-    counts.chains
-}
-
-fn standing_in(stage: Stage) -> Standing
-    ensures { result ≡ stage.standing }
-{
-    let standing = stage.standing;
-    standing
-}
-
-// The lines of the text, unless it was refused before them. One lifetime for all the slices, so that the caller lends them together.
-pub(crate) fn read_runs<'t, 'a>(
-    text: &'t [u8],
-    halt: Halt,
-    chains: &'a mut [Chain],
-    residue_keys: &'a mut [u64],
-    residue_names: &'a mut [u64],
-    residue_marks: &'a mut [u8],
-    atom_keys: &'a mut [u64],
-    atom_names: &'a mut [u64],
-    elements: &'a mut [u8],
-    positions: &'a mut [[f64; 3]],
-    occupancies: &'a mut [f64],
+// The lines of the text, unless it was refused before them.
+pub(crate) fn read_runs(
+    text: &[u8],
+    halt: Result<(), Refusal>,
+    chains: &mut [Chain],
+    residues: &mut ResiduesMut<'_>,
+    atoms: &mut AtomsMut<'_>,
     settings: Settings,
     room: Room,
 ) -> Standing
-    ensures { let l = records_by (names_at chains) residue_keys residue_names residue_marks atom_keys atom_names elements positions occupancies in
-        Passes l.entry room (ahead halt (made room start (acts_of settings text.now))) result l.exit }
+    ensures same_residues { KeepsResidues residues.old residues.new }
+    ensures same_atoms { SameAtoms atoms.old atoms.new }
+    ensures passes { Passes (records_now (names_in chains.old) residues.old atoms.old) room (ahead halt (made room start (acts_of settings text.now))) result
+        (records_now (names_in chains.new) residues.new atoms.new) }
 {
     let mut stage = first_row(text, settings, halt);
     let mut place = 0;
-    while waits(stage) {
-        let many = met(stage);
-        let name = chain_in(stage);
-        place = place_in(chains, many, name, place);
-        stage = take_run(
-            text,
-            residue_keys,
-            residue_names,
-            residue_marks,
-            atom_keys,
-            atom_names,
-            elements,
-            positions,
-            occupancies,
-            settings,
-            room,
-            stage,
+    while let Some(row) = stage.waiting {
+        place = place_in(
+            chains,
+            stage.standing.held.counts.chains,
+            row.site.chain,
             place,
         );
+        stage = take_run(text, residues, atoms, settings, room, stage, place);
     }
-    standing_in(stage)
+    stage.standing
 }

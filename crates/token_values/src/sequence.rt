@@ -10,19 +10,13 @@ const ONE: u32 = 2_147_483_649;
 fn positive(n: u64) -> u32
     ensures { result ≡ positive_of n }
 {
-    if n < ZERO {
-        return (ZERO + n) as u32;
-    }
-    ONE
+    if n < ZERO { (ZERO + n) as u32 } else { ONE }
 }
 
 fn negative(n: u64) -> u32
     ensures { result ≡ negative_of n }
 {
-    if n <= ZERO {
-        return (ZERO - n) as u32;
-    }
-    ONE
+    if n <= ZERO { (ZERO - n) as u32 } else { ONE }
 }
 
 // The number that the token writes; 1 where it writes none that fits in 32 bits with its sign.
@@ -35,7 +29,8 @@ pub fn sequence_of(token: &[u8]) -> u32
     }
     let n = ascii::number_from(0, digits);
     if ascii::byte_at(token, 0) == b'-' {
-        return negative(n);
+        negative(n)
+    } else {
+        positive(n)
     }
-    positive(n)
 }

@@ -1,32 +1,30 @@
 -- A turn of each trimming walk is one clause of its definition.
 use mathlib.Core.Path.{◌≡◌, refl, sym, ap, ◌∙◌}
 use mathlib.Core.List.{List, [], ◌∷◌, ◌++◌}
-use mathlib.Core.Bool.{true, false, cond}
-use Prim.Native.Nat.{ℕ, zero, suc, ◌+◌, ◌-◌, ◌≤◌, ◌<◌}
+use mathlib.Core.Bool.{Bool, true, false, cond}
+use Prim.Native.Nat.{ℕ, suc, ◌+◌, ◌-◌, ◌≤◌}
 use native.Mathlib.Nat.{sub-zero}
-use native.Mathlib.Numerals.{add-one}
 use native.Mathlib.Omega.{arith}
-use lib.ListN.{length, get_or, take, drop, drop_of_length-le}
-use lib.Seq.{drop-cons, take-suc, take-length}
+use lib.ListN.{length, take, drop, length-append}
+use lib.Seq.{take_all}
+use mathlib.Core.List.{reverse, reverse-cons, reverse-reverse}
+use Rattle.std.proofs.lemmas.List.{take-append-le}
+use Rattle.std.specs.List.{prefix_len}
 use Rattle.ascii.proofs.ListLaws.{tail_is}
 use Rattle.tokens.specs.Kinds.{is_blank}
 use Rattle.tokens.specs.Trim.{trim_start, keep, trim_end, trim}
 
 -- ---- from the start
-module _ (line : List ℕ) (i : ℕ) where
-  start_step : i < length line → trim_start (drop i line) ≡ cond (is_blank (get_or line i 0)) (trim_start (drop (i + 1) line)) (get_or line i 0 ∷ drop (i + 1) line)
-  unfolding trim_start
-  start_step h = rw (add-one, drop-cons line i 0 h)
-
-  pub start_more : i < length line → is_blank (get_or line i 0) ≡ true → trim_start (drop (i + 1) line) ≡ trim_start (drop i line)
-  start_more h b = sym (start_step h ∙ rw b)
-
-  pub start_stop : i < length line → is_blank (get_or line i 0) ≡ false → drop i line ≡ trim_start (drop i line)
-  start_stop h b = sym (start_step h ∙ rw (b, add-one) (sym (drop-cons line i 0 h)))
-
-  pub start_end : length line ≤ i → drop i line ≡ trim_start (drop i line)
-  unfolding trim_start
-  start_end h = rw (drop_of_length-le line h)
+pub starts : (line : List ℕ) → (prefix_len is_blank line ≤ length line) × (drop (prefix_len is_blank line) line ≡ trim_start line)
+unfolding trim_start
+starts [] = (omega arith, refl)
+starts (b ∷ s) = go (is_blank b) (starts s)
+  where
+    go :
+        (t : Bool) → (prefix_len is_blank s ≤ length s) × (drop (prefix_len is_blank s) s ≡ trim_start s)
+        → (cond t (1 + prefix_len is_blank s) 0 ≤ suc (length s)) × (drop (cond t (1 + prefix_len is_blank s) 0) (b ∷ s) ≡ cond t (trim_start s) (b ∷ s))
+    go true e = let one : 1 + prefix_len is_blank s ≡ suc (prefix_len is_blank s) = omega arith in rw one (omega (arith, e.0), e.1)
+    go false e = (omega arith, refl)
 
 -- ---- from the end
 end_more : (s : List ℕ) (b : ℕ) → is_blank b ≡ true → trim_end (s ++ b ∷ []) ≡ trim_end s
@@ -44,26 +42,29 @@ unfolding trim_end
 end_stop [] b h = rw h
 end_stop (x ∷ s) b h = ap (keep x) (end_stop s b h) ∙ keep_some x s b
 
-module _ (line : List ℕ) (i : ℕ) (some : 0 < i) (within : i ≤ length line) where
-  last : take i line ≡ take (i - 1) line ++ get_or line (i - 1) 0 ∷ []
-  last = ap (λ (n : ℕ). take n line) back ∙ take-suc line (i - 1) 0 (omega arith)
-    where
-      back : i ≡ suc (i - 1)
-      back = omega arith
-
-  pub end_back : is_blank (get_or line (i - 1) 0) ≡ true → trim_end (take (i - 1) line) ≡ trim_end (take i line)
-  end_back b = sym (ap trim_end last ∙ end_more (take (i - 1) line) (get_or line (i - 1) 0) b)
-
-  pub end_here : is_blank (get_or line (i - 1) 0) ≡ false → take i line ≡ trim_end (take i line)
-  end_here b = last ∙ sym (ap trim_end last ∙ end_stop (take (i - 1) line) (get_or line (i - 1) 0) b)
-
-pub end_all : (line : List ℕ) → trim_end (take (length line) line) ≡ trim_end line
-end_all line = rw (take-length line)
-
-pub end_none : (line : List ℕ) (i : ℕ) → i ≤ 0 → [] ≡ trim_end (take i line)
+-- of a line that is told from its end
+ends_reversed : (r : List ℕ) → (prefix_len is_blank r ≤ length (reverse r)) × (take (length (reverse r) - prefix_len is_blank r) (reverse r) ≡ trim_end (reverse r))
 unfolding trim_end
-end_none line zero h = refl
-end_none line (suc i) h = absurd (omega arith)
+ends_reversed [] = (omega arith, refl)
+ends_reversed (b ∷ r) = rw (reverse-cons b r, length-append (reverse r) (b ∷ [])) (go (is_blank b) refl (ends_reversed r))
+  where
+    s : List ℕ
+    s = reverse r
+
+    n : ℕ
+    n = prefix_len is_blank r
+
+    go :
+        (t : Bool) → is_blank b ≡ t → (n ≤ length s) × (take (length s - n) s ≡ trim_end s)
+        → (cond t (1 + n) 0 ≤ length s + 1) × (take (length s + 1 - cond t (1 + n) 0) (s ++ b ∷ []) ≡ trim_end (s ++ b ∷ []))
+    go true h e =
+        let less : length s + 1 - (1 + n) ≡ length s - n = omega arith in
+        (omega (arith, e.0), rw less (take-append-le (length s - n) s (b ∷ []) (omega arith) ∙ e.1 ∙ sym (end_more s b h)))
+    go false h e =
+        (omega arith, take_all (length s + 1 - 0) (s ++ b ∷ []) (omega (arith, length-append s (b ∷ []))) ∙ sym (end_stop s b h))
+
+pub ends : (line : List ℕ) → (prefix_len is_blank (reverse line) ≤ length line) × (take (length line - prefix_len is_blank (reverse line)) line ≡ trim_end line)
+ends line = rw reverse-reverse at (ends_reversed (reverse line))
 
 -- ---- parts of a slice
 -- the front of a list, as a slice `&s[0..n]` has it

@@ -1,5 +1,5 @@
 -- The fifteen items that matter, in the order of the column map.
-use Rattle.std.specs.Prelude.{ℕ, suc, cond, List, [], ◌∷◌}
+use Rattle.std.specs.Prelude.{ℕ, suc, cond, List, [], ◌∷◌, Option, Some, None, option_map}
 use Rattle.ascii.specs.Bytes.{bytes}
 use Rattle.ascii.specs.Words.{same_bytes}
 
@@ -22,11 +22,11 @@ item_names =
     bytes "_atom_site.type_symbol" ∷
     []
 
--- the place of the token among the names, or their number where it is none of them
-unfoldable pub place_in : List (List ℕ) → List ℕ → ℕ
-place_in [] token = 0
-place_in (name ∷ names) token = cond (same_bytes token name) 0 (suc (place_in names token))
+-- the place of the token among the names, from 0; none where it is none of them
+unfoldable pub place_in : List (List ℕ) → List ℕ → Option ℕ
+place_in [] token = None
+place_in (name ∷ names) token = cond (same_bytes token name) (Some 0) (option_map suc (place_in names token))
 
--- which item the token names, from 0; 15 where it names none of them
-abbrev pub item_of : List ℕ → ℕ
+-- which item the token names, from 0
+abbrev pub item_of : List ℕ → Option ℕ
 item_of token = place_in item_names token

@@ -1,11 +1,10 @@
 // The fifteen items that matter, in the order of the column map.
-ghost use Rattle.std.specs.Prelude.{◌≡◌, [], ◌<◌, get_or};
+ghost use Rattle.std.specs.Prelude.{◌≡◌};
 ghost use Rattle.ascii.specs.Words.{same_bytes};
-ghost use Rattle.tokens.specs.Items.{item_names, item_of};
+ghost use Rattle.tokens.specs.Items.{item_of};
+ghost use Rattle.tokens.specs.Trim.{trim_end};
 
 use crate::trim::trim_end;
-
-const ITEMS: usize = 15;
 
 // Each name with blanks after it, as long as the longest.
 const NAMES: [[u8; 28]; 15] = [
@@ -26,25 +25,17 @@ const NAMES: [[u8; 28]; 15] = [
     *b"_atom_site.type_symbol      ",
 ];
 
-fn is_kth_item(token: &[u8], k: usize) -> bool
-    requires { k < 15 }
-    ensures { result ≡ same_bytes token.now (get_or item_names k []) }
+// Whether the token is the name that a row holds.
+fn is_name(token: &[u8], row: &[u8]) -> bool
+    ensures { result ≡ same_bytes token.now (trim_end row.now) }
 {
-    let row = NAMES[k];
-    let end = trim_end(&row);
-    ascii::same_bytes(token, &row[0..end])
+    let end = trim_end(row);
+    ascii::same_bytes(token, &row[..end])
 }
 
-// Which item the token names, from 0; 15 where it names none of them.
-pub fn item_of(token: &[u8]) -> usize
+// Which item the token names, from 0.
+pub fn item_of(token: &[u8]) -> Option<usize>
     ensures { result ≡ item_of token.now }
 {
-    let mut k = 0;
-    while k < ITEMS {
-        if is_kth_item(token, k) {
-            return k;
-        }
-        k += 1;
-    }
-    ITEMS
+    NAMES.iter().position(|row| is_name(token, row))
 }

@@ -1,6 +1,6 @@
 // What a byte is to the tokenizer: one decision by value and range.
 ghost use Rattle.std.specs.Prelude.{◌≡◌};
-ghost use Rattle.tokens.specs.Kinds.{kind_of, blank, plain, is_blank, is_plain};
+ghost use Rattle.tokens.specs.Kinds.{kind_of, is_blank, is_plain};
 
 #[derive(Clone, Copy)]
 pub enum Kind {
@@ -19,34 +19,14 @@ pub(crate) fn kind_of(b: u8) -> Kind
     }
 }
 
-fn blank_kind(k: Kind) -> bool
-    ensures { result ≡ blank k }
-{
-    match k {
-        Kind::Blank => true,
-        Kind::Quote => false,
-        Kind::Plain => false,
-    }
-}
-
-fn plain_kind(k: Kind) -> bool
-    ensures { result ≡ plain k }
-{
-    match k {
-        Kind::Blank => false,
-        Kind::Quote => false,
-        Kind::Plain => true,
-    }
-}
-
 pub(crate) fn is_blank(b: u8) -> bool
     ensures { result ≡ is_blank b }
 {
-    blank_kind(kind_of(b))
+    matches!(kind_of(b), Kind::Blank)
 }
 
 pub(crate) fn is_plain(b: u8) -> bool
     ensures { result ≡ is_plain b }
 {
-    plain_kind(kind_of(b))
+    matches!(kind_of(b), Kind::Plain)
 }

@@ -6,6 +6,7 @@ mod kinds;
 mod longest;
 mod quote;
 mod split;
+mod store;
 mod tokenize;
 mod trim;
 

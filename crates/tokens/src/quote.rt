@@ -4,44 +4,28 @@ ghost use Rattle.ascii.specs.Output.{Stored, placed_of, buffer_after};
 ghost use Rattle.tokens.specs.Quote.{has, all_plain, quote_for, in_quotes, quote_of};
 
 use crate::kinds::is_plain;
-use ascii::{Placed, put_text};
+use ascii::{NoRoom, put_text};
 
 fn has_byte(s: &[u8], b: u8) -> bool
     ensures { result ≡ has b s.now }
 {
-    let mut i = 0;
-    while i < s.len() {
-        if s[i] == b {
-            return true;
-        }
-        i += 1;
-    }
-    false
+    s.iter().any(|c| *c == b)
 }
 
 fn all_plain(s: &[u8]) -> bool
     ensures { result ≡ all_plain s.now }
 {
-    let mut i = 0;
-    while i < s.len() {
-        if !is_plain(s[i]) {
-            return false;
-        }
-        i += 1;
-    }
-    true
+    s.iter().all(|b| is_plain(*b))
 }
 
 fn quote_for(name: &[u8]) -> u8
     ensures { result ≡ quote_for name.now }
 {
-    if !has_byte(name, b'\'') {
-        return b'\'';
+    if has_byte(name, b'\'') && !has_byte(name, b'"') {
+        b'"'
+    } else {
+        b'\''
     }
-    if has_byte(name, b'"') {
-        return b'\'';
-    }
-    b'"'
 }
 
 fn put_in_quotes(name: &[u8], q: u8, out: &mut [u8], at: usize) -> usize
@@ -49,25 +33,25 @@ fn put_in_quotes(name: &[u8], q: u8, out: &mut [u8], at: usize) -> usize
     ensures { Stored out.old at (in_quotes q name.now) out.new result }
 {
     out[at] = q;
-    put_text(name, out, at + 1);
     let end = at + 1 + name.len();
+    out[at + 1..end].copy_from_slice(name);
     out[end] = q;
     end + 1
 }
 
 // The name between two quotes, where they fit.
-fn put_quoted(name: &[u8], q: u8, out: &mut [u8], at: usize) -> Placed
+fn put_quoted(name: &[u8], q: u8, out: &mut [u8], at: usize) -> Result<usize, NoRoom>
     ensures { (result ≡ placed_of out.old at (in_quotes q name.now)) × (out.new ≡ buffer_after out.old at (in_quotes q name.now)) }
 {
     let n = name.len() + 2;
     if !ascii::fits_at(out.len(), at, n) {
-        return Placed::NoRoom(n);
+        return Err(NoRoom { needed: n });
     }
-    Placed::Next(put_in_quotes(name, q, out, at))
+    Ok(put_in_quotes(name, q, out, at))
 }
 
 // Puts the name as it is written into the buffer from index at on; where it does not fit, no byte changes.
-pub fn quote_string(name: &[u8], out: &mut [u8], at: usize) -> Placed
+pub fn quote_string(name: &[u8], out: &mut [u8], at: usize) -> Result<usize, NoRoom>
     ensures { (result ≡ placed_of out.old at (quote_of name.now)) × (out.new ≡ buffer_after out.old at (quote_of name.now)) }
 {
     if name.len() == 0 {

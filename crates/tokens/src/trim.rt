@@ -8,29 +8,14 @@ use crate::kinds::is_blank;
 pub fn trim_start(line: &[u8]) -> usize
     ensures { (result ≤ length line.now) × (drop result line.now ≡ trim_start line.now) }
 {
-    let mut i = 0;
-    while i < line.len() {
-        if !is_blank(line[i]) {
-            return i;
-        }
-        i += 1;
-    }
-    i
+    line.iter().take_while(|b| is_blank(**b)).count()
 }
 
 // The place after the last byte that is no blank, or the start.
 pub(crate) fn trim_end(line: &[u8]) -> usize
     ensures { (result ≤ length line.now) × (take result line.now ≡ trim_end line.now) }
 {
-    let mut i = line.len();
-    while 0 < i {
-        let j = i - 1;
-        if !is_blank(line[j]) {
-            return i;
-        }
-        i = j;
-    }
-    0
+    line.len() - line.iter().rev().take_while(|b| is_blank(**b)).count()
 }
 
 // What of a line its tokens are made of: a comment has none.

@@ -1,18 +1,17 @@
 -- What stands from an index on is what stands there, and then what stands from the next index on; so a test of all of it is a test there, and one of the
 -- rest.
 use mathlib.Core.Path.{◌≡◌, refl, sym, ap, ◌∙◌}
-use mathlib.Core.Bool.{Bool, true, false, not, ◌&&◌, ◌||◌, cond}
+use mathlib.Core.Bool.{Bool, true, false, ◌&&◌, ◌||◌, cond}
 use mathlib.Core.List.{List, [], ◌∷◌}
 use Prim.Native.Nat.{ℕ, zero, suc, ◌+◌, ◌-◌, ◌≤◌, ◌<◌}
 use native.Mathlib.Numerals.{add-one}
 use native.Mathlib.Omega.{arith}
-use lib.Dec.{eqb, ltb}
+use lib.Dec.{ltb}
 use borrow.Author.Tests.{eq-eqb, ne_eqb, lt-ltb, le-ltb}
 use Rattle.names.specs.Places.{ascends}
 use Rattle.model.specs.Lent.{list_from}
 use Rattle.model.specs.Lists.{any}
 use Rattle.ascii.specs.Lists.{every}
-use Rattle.model.specs.WellFormed.{differ}
 use Rattle.wellformed.specs.Runs.{equals}
 
 -- what stands from index i on, of n in all
@@ -60,24 +59,6 @@ module _ {A : Type 0} (p : A → Bool) (at : ℕ → A) (n i : ℕ) where
     any_found e = ap (any p) (rest_turn at n i h) ∙ ap (λ (t : Bool). t || any p (rest at n (i + 1))) e
 
 module _ (at : ℕ → ℕ) (n i : ℕ) where
-  -- ---- numbers that differ
-  pub differ_end : n ≤ i → differ (rest at n i) ≡ true
-  unfolding differ
-  differ_end h = ap differ (rest_end at n i h)
-
-  -- the first is among the others
-  abbrev pub again : Bool
-  again = any (eqb (at i)) (rest at n (i + 1))
-
-  module _ (h : i < n) where
-    pub differ_on : again ≡ false → differ (rest at n i) ≡ differ (rest at n (i + 1))
-    unfolding differ
-    differ_on e = ap differ (rest_turn at n i h) ∙ ap (λ (t : Bool). not t && differ (rest at n (i + 1))) e
-
-    pub differ_fails : again ≡ true → differ (rest at n i) ≡ false
-    unfolding differ
-    differ_fails e = ap differ (rest_turn at n i h) ∙ ap (λ (t : Bool). not t && differ (rest at n (i + 1))) e
-
   -- ---- a run of equal numbers
   pub equals_end : (x : ℕ) → n ≤ i → equals x (rest at n i) ≡ 0
   unfolding equals

@@ -1,3 +1,4 @@
+pub mod ChainLaws
 pub mod ClassWalk
 pub mod FromLaws
 pub mod NameLaws

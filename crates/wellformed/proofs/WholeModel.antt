@@ -21,7 +21,7 @@ use Rattle.ascii.specs.Lists.{every}
 use Rattle.model.specs.WellFormed.{same_list, runs_of, is_name, is_code, is_near, chains_well, class_well, residue_well, atom_well, in_runs, in_order, well_formed, counts_fit, well_formed_in}
 use Rattle.model.proofs.ListLaws.{left_of, right_of, all_map}
 use Rattle.model.proofs.WalkLaws.{Rising, keys_of_records}
-use Rattle.wellformed.specs.Slices.{entries, chains_run, residues_run, residues_ascend, atoms_ascend, residues_classed, residues_stand, residues_well, atoms_well, Within}
+use Rattle.wellformed.specs.Slices.{entries, chains_run, residues_ascend, residues_classed, residues_stand, residues_well, atoms_well, Within, runs_well, order_well}
 use Rattle.wellformed.specs.Walks.{classed_from, stands_from}
 use Rattle.wellformed.proofs.ClassWalk.{classed, classes_walked}
 use Rattle.wellformed.proofs.NameLaws.{name_below}
@@ -45,9 +45,6 @@ module _ {S : Type 0} where
   every_all p (s ∷ l) e = (left_of (p s) (every p l) e, every_all p l (right_of (p s) (every p l) e))
 
 -- ---- the counts
-abbrev pub WithinOf : Lent → Room → Type 0
-WithinOf l = Within l.chains l.residue_keys l.residue_names l.residue_codes l.residue_categories l.residue_positions l.atom_keys l.atom_names l.elements l.positions
-
 below_all : (n most a b c d e : ℕ) → n ≤ min most (min a (min b (min c (min d e)))) → (n ≤ a) × (n ≤ b) × (n ≤ c) × (n ≤ d) × (n ≤ e)
 below_all n most a b c d e h = (omega arith, omega arith, omega arith, omega arith, omega arith)
 
@@ -64,7 +61,7 @@ module _ (l : Lent) (counts : Room) where
   abbrev fits : Bool
   fits = counts_fit l counts
 
-  pub within_all : fits ≡ true → WithinOf l counts
+  pub within_all : fits ≡ true → Within l counts
   unfolding counts_fit room_of
   within_all e =
       let both = left_of (leb chains (room_of l).chains && leb residues (room_of l).residues) (leb atoms (room_of l).atoms) e in
@@ -91,16 +88,16 @@ module _ (l : Lent) (counts : Room) where
   chains_tested = chains_well (take chains l.chains)
 
   abbrev pub runs_tested : Bool
-  runs_tested = chains_run l.residue_keys chains residues && residues_run l.residue_keys l.atom_keys residues atoms
+  runs_tested = runs_well l counts
 
   abbrev pub order_tested : Bool
-  order_tested = residues_ascend l.residue_keys residues && atoms_ascend l.atom_keys l.atom_names atoms
+  order_tested = order_well l counts
 
   abbrev pub atoms_tested : Bool
   atoms_tested = atoms_well l.atom_names l.elements l.positions atoms
 
   abbrev pub residues_tested : Bool
-  residues_tested = residues_well l.residue_keys l.residue_names l.residue_codes l.residue_categories l.residue_positions l.atom_keys residues atoms
+  residues_tested = residues_well l counts
 
   -- ---- the model in the slices
   abbrev model : Model
@@ -143,7 +140,7 @@ module _ (l : Lent) (counts : Room) where
       every_both (λ r. is_named r && class_well the_atoms r) is_placed the_residues
       ∙ ap (λ (t : Bool). t && every is_placed the_residues) (every_both is_named (class_well the_atoms) the_residues)
 
-  module _ (w : WithinOf l counts) (runs : runs_tested ≡ true) (order : order_tested ≡ true) (named : atoms_tested ≡ true) where
+  module _ (w : Within l counts) (runs : runs_tested ≡ true) (order : order_tested ≡ true) (named : atoms_tested ≡ true) where
     ascending : ascends (map (λ r. r.key) the_residues) ≡ true
     ascending = ap ascends (map_from (λ r. r.key) (residue_in l) 0 residues) ∙ left_of _ _ order
 
@@ -164,7 +161,7 @@ module _ (l : Lent) (counts : Room) where
         ∙ ap (same_list (runs_of (list_from (entries l.atom_keys) 0 atoms))) (map_from (λ r. r.key) (residue_in l) 0 residues)
         ∙ right_of (chains_run l.residue_keys chains residues) _ runs
 
-    classes : every (class_well the_atoms) the_residues ≡ residues_classed l.residue_keys l.residue_names l.residue_codes l.residue_categories l.atom_keys residues atoms
+    classes : every (class_well the_atoms) the_residues ≡ residues_classed l counts
     classes =
         sym (classes_walked the_atoms rising the_residues ascending peopled)
         ∙ ap (λ (m : List ℕ). classed_from m 0 (map classed the_residues)) keys

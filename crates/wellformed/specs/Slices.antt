@@ -7,7 +7,7 @@ use Rattle.field_slices.specs.Clearing.{zero_point}
 use Rattle.model.specs.declared.room.Room.{Room}
 use Rattle.model.specs.declared.classes.Class.{Class}
 use Rattle.model.specs.Keys.{atom_place, chain_part, code_part}
-use Rattle.model.specs.Lent.{point_of, list_from}
+use Rattle.model.specs.Lent.{Lent, point_of, list_from}
 use Rattle.ascii.specs.Lists.{every}
 use Rattle.model.specs.WellFormed.{same_list, runs_of, is_name, is_code, is_near, chains_well}
 use Rattle.wellformed.specs.Walks.{Standing, classed_from, stands_from}
@@ -28,8 +28,9 @@ abbrev pub is_atom_well : ℕ → ℕ → List Float → Bool
 is_atom_well name element position = is_name name && leb element 118 && is_near (point_of position)
 
 -- a residue's key and class, by its index
-abbrev pub classed_in : List ℕ → List ℕ → List ℕ → List ℕ → ℕ → ℕ × Class
-classed_in keys names codes categories i = (entries keys i, record { name = entries names i; code = entries codes i; category = entries categories i })
+abbrev pub classed_in : Lent → ℕ → ℕ × Class
+classed_in l i =
+    (entries l.residue_keys i, record { name = entries l.residue_names i; code = entries l.residue_codes i; category = entries l.residue_categories i })
 
 abbrev pub standing_in : List ℕ → List ℕ → List ℕ → ℕ → Standing
 standing_in keys codes positions i = record { key = entries keys i; code = entries codes i; position = entries positions i }
@@ -53,38 +54,45 @@ atoms_ascend keys names atoms = ascends (list_from (λ i. atom_place (entries ke
 abbrev pub residues_named : List ℕ → List ℕ → ℕ → Bool
 residues_named keys names residues = every (λ i. is_residue_named (entries keys i) (entries names i)) (list_from (λ i. i) 0 residues)
 
-abbrev pub residues_classed : List ℕ → List ℕ → List ℕ → List ℕ → List ℕ → ℕ → ℕ → Bool
-residues_classed keys names codes categories atom_keys residues atoms = classed_from (take atoms atom_keys) 0 (list_from (classed_in keys names codes categories) 0 residues)
+abbrev pub residues_classed : Lent → Room → Bool
+residues_classed l counts = classed_from (take counts.atoms l.atom_keys) 0 (list_from (classed_in l) 0 counts.residues)
 
 abbrev pub residues_stand : List ℕ → List ℕ → List ℕ → ℕ → Bool
 residues_stand keys codes positions residues = stands_from 0 (list_from (standing_in keys codes positions) 0 residues)
 
-abbrev pub residues_well : List ℕ → List ℕ → List ℕ → List ℕ → List ℕ → List ℕ → ℕ → ℕ → Bool
-residues_well keys names codes categories positions atom_keys residues atoms =
-    residues_named keys names residues && residues_classed keys names codes categories atom_keys residues atoms && residues_stand keys codes positions residues
+abbrev pub residues_well : Lent → Room → Bool
+residues_well l counts =
+    residues_named l.residue_keys l.residue_names counts.residues
+    && residues_classed l counts
+    && residues_stand l.residue_keys l.residue_codes l.residue_positions counts.residues
 
 abbrev pub atoms_well : List ℕ → List ℕ → List (List Float) → ℕ → Bool
 atoms_well names elements positions atoms = every (λ i. is_atom_well (entries names i) (entries elements i) (get_or positions i zero_point)) (list_from (λ i. i) 0 atoms)
 
 -- ---- the whole, where the counts are within the slices
 
-pub record Within (chains residue_keys residue_names residue_codes residue_categories residue_positions atom_keys atom_names elements : List ℕ) (positions : List (List Float))
-    (counts : Room) : Type 0 where
-  pub of_chains : counts.chains ≤ length chains
-  pub of_residue_keys : counts.residues ≤ length residue_keys
-  pub of_residue_names : counts.residues ≤ length residue_names
-  pub of_residue_codes : counts.residues ≤ length residue_codes
-  pub of_residue_categories : counts.residues ≤ length residue_categories
-  pub of_residue_positions : counts.residues ≤ length residue_positions
-  pub of_atom_keys : counts.atoms ≤ length atom_keys
-  pub of_atom_names : counts.atoms ≤ length atom_names
-  pub of_elements : counts.atoms ≤ length elements
-  pub of_positions : counts.atoms ≤ length positions
+pub record Within (l : Lent) (counts : Room) : Type 0 where
+  pub of_chains : counts.chains ≤ length l.chains
+  pub of_residue_keys : counts.residues ≤ length l.residue_keys
+  pub of_residue_names : counts.residues ≤ length l.residue_names
+  pub of_residue_codes : counts.residues ≤ length l.residue_codes
+  pub of_residue_categories : counts.residues ≤ length l.residue_categories
+  pub of_residue_positions : counts.residues ≤ length l.residue_positions
+  pub of_atom_keys : counts.atoms ≤ length l.atom_keys
+  pub of_atom_names : counts.atoms ≤ length l.atom_names
+  pub of_elements : counts.atoms ≤ length l.elements
+  pub of_positions : counts.atoms ≤ length l.positions
 
-abbrev pub records_well : List ℕ → List ℕ → List ℕ → List ℕ → List ℕ → List ℕ → List ℕ → List ℕ → List ℕ → List (List Float) → Room → Bool
-records_well chains residue_keys residue_names residue_codes residue_categories residue_positions atom_keys atom_names elements positions counts =
-    chains_well (take counts.chains chains)
-    && (chains_run residue_keys counts.chains counts.residues && residues_run residue_keys atom_keys counts.residues counts.atoms)
-    && (residues_ascend residue_keys counts.residues && atoms_ascend atom_keys atom_names counts.atoms)
-    && atoms_well atom_names elements positions counts.atoms
-    && residues_well residue_keys residue_names residue_codes residue_categories residue_positions atom_keys counts.residues counts.atoms
+abbrev pub runs_well : Lent → Room → Bool
+runs_well l counts = chains_run l.residue_keys counts.chains counts.residues && residues_run l.residue_keys l.atom_keys counts.residues counts.atoms
+
+abbrev pub order_well : Lent → Room → Bool
+order_well l counts = residues_ascend l.residue_keys counts.residues && atoms_ascend l.atom_keys l.atom_names counts.atoms
+
+abbrev pub records_well : Lent → Room → Bool
+records_well l counts =
+    chains_well (take counts.chains l.chains)
+    && runs_well l counts
+    && order_well l counts
+    && atoms_well l.atom_names l.elements l.positions counts.atoms
+    && residues_well l counts

@@ -3,35 +3,24 @@ ghost use Rattle.std.specs.Prelude.{◌≡◌, ◌≤◌, length};
 ghost use Rattle.wellformed.specs.Slices.{is_atom_well, atoms_well};
 
 use crate::fields::{is_name, is_near};
+use model::Records;
 
 fn is_atom_well(name: u64, element: u8, position: [f64; 3]) -> bool
     ensures { result ≡ is_atom_well name element position }
 {
-    if !is_name(name) {
-        return false;
-    }
-    if 118 < element {
-        return false;
-    }
-    is_near(position)
+    is_name(name) && element <= 118 && is_near(position)
 }
 
-pub(crate) fn are_atoms_well(
-    names: &[u64],
-    elements: &[u8],
-    positions: &[[f64; 3]],
-    n: usize,
-) -> bool
-    requires { (n ≤ length names.now) × (n ≤ length elements.now) × (n ≤ length positions.now) }
-    ensures { result ≡ atoms_well names.now elements.now positions.now n }
+// A field stands in a slice of its own, so an index goes over all of them.
+pub(crate) fn are_atoms_well(records: Records<'_>, n: usize) -> bool
+    requires { (n ≤ length records.atom_names.now) × (n ≤ length records.elements.now) × (n ≤ length records.positions.now) }
+    ensures { result ≡ atoms_well records.entry.atom_names.now records.entry.elements.now records.entry.positions.now n }
 {
-    let mut i = 0;
-    while i < n {
-        let position = positions[i];
-        if !is_atom_well(names[i], elements[i], position) {
+    for i in 0..n {
+        let position = records.positions[i];
+        if !is_atom_well(records.atom_names[i], records.elements[i], position) {
             return false;
         }
-        i += 1;
     }
     true
 }

@@ -1,41 +1,21 @@
 // The chains: names that differ, none of them `.`.
-ghost use Rattle.std.specs.Prelude.{◌≡◌, ◌-◌, ◌≤◌, eqb, length, take};
-ghost use Rattle.model.specs.Lent.{list_from};
-ghost use Rattle.model.specs.Lists.{any};
+ghost use Rattle.std.specs.Prelude.{◌≡◌};
 ghost use Rattle.ascii.specs.Lists.{every};
 ghost use Rattle.model.specs.WellFormed.{differ, chains_well};
-ghost use Rattle.wellformed.specs.Slices.{entries, is_chain_name};
+ghost use Rattle.wellformed.specs.Slices.{is_chain_name};
 
 use crate::fields::is_name;
 
 // The chain name `.`, packed.
 const POINT: u64 = 0x2e00_0000_0000_0000;
 
-// Whether the name stands among the first n chains, from an index on.
-fn stands_from(chains: &[u64], n: usize, from: usize, name: u64) -> bool
-    requires { n ≤ length chains.now }
-    ensures { result ≡ any (eqb name) (list_from (entries chains.now) from (n - from)) }
+fn names_differ(chains: &[u64]) -> bool
+    ensures { result ≡ differ chains.now }
 {
-    let mut i = from;
-    while i < n {
-        if chains[i] == name {
-            return true;
-        }
-        i += 1;
-    }
-    false
-}
-
-fn names_differ(chains: &[u64], n: usize) -> bool
-    requires { n ≤ length chains.now }
-    ensures { result ≡ differ (list_from (entries chains.now) 0 n) }
-{
-    let mut i = 0;
-    while i < n {
-        if stands_from(chains, n, i + 1, chains[i]) {
+    for i in 0..chains.len() {
+        if chains[i + 1..].contains(&chains[i]) {
             return false;
         }
-        i += 1;
     }
     true
 }
@@ -43,32 +23,18 @@ fn names_differ(chains: &[u64], n: usize) -> bool
 fn is_chain_name(name: u64) -> bool
     ensures { result ≡ is_chain_name name }
 {
-    if name == POINT {
-        return false;
-    }
-    is_name(name)
+    is_name(name) && name != POINT
 }
 
-fn are_chain_names(chains: &[u64], n: usize) -> bool
-    requires { n ≤ length chains.now }
-    ensures { result ≡ every is_chain_name (list_from (entries chains.now) 0 n) }
+fn are_chain_names(chains: &[u64]) -> bool
+    ensures { result ≡ every is_chain_name chains.now }
 {
-    let mut i = 0;
-    while i < n {
-        if !is_chain_name(chains[i]) {
-            return false;
-        }
-        i += 1;
-    }
-    true
+    chains.iter().all(|name| is_chain_name(*name))
 }
 
-pub(crate) fn are_chains_well(chains: &[u64], n: usize) -> bool
-    requires { n ≤ length chains.now }
-    ensures { result ≡ chains_well (take n chains.now) }
+#[tactic(auto, unfolding(model::specs::WellFormed::chains_well))]
+pub(crate) fn are_chains_well(chains: &[u64]) -> bool
+    ensures { result ≡ chains_well chains.now }
 {
-    if !names_differ(chains, n) {
-        return false;
-    }
-    are_chain_names(chains, n)
+    names_differ(chains) && are_chain_names(chains)
 }

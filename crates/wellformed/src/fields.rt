@@ -13,10 +13,7 @@ use numbers::is_printable;
 fn is_text_byte(b: u8) -> bool
     ensures { result ≡ is_text_byte b }
 {
-    match b {
-        9 | 32..=126 => true,
-        _ => false,
-    }
+    matches!(b, 9 | 32..=126)
 }
 
 // 1 to 8 bytes, each 9 or 32 to 126: each turn passes the first byte of what is left.
@@ -37,25 +34,17 @@ pub(crate) fn is_name(name: u64) -> bool
 }
 
 // The insertion code in a residue's key: 0, 9 or 32 to 126.
+#[tactic(auto, unfolding(model::specs::WellFormed::is_code))]
 pub(crate) fn has_code(key: u64) -> bool
     ensures { result ≡ is_code (code_part key) }
 {
     let code = code_part(key);
-    if code == 0 {
-        return true;
-    }
-    is_text_byte(code)
+    code == 0 || is_text_byte(code)
 }
 
 // Finite, magnitude at most 1,000,000.
 pub(crate) fn is_near(point: [f64; 3]) -> bool
     ensures { result ≡ is_near (point_of point) }
 {
-    if !is_printable(point[0]) {
-        return false;
-    }
-    if !is_printable(point[1]) {
-        return false;
-    }
-    is_printable(point[2])
+    is_printable(point[0]) && is_printable(point[1]) && is_printable(point[2])
 }

@@ -1,5 +1,4 @@
--- The row of an atom, by the residue where the walk stands and its number, is the row of the model; and so, atom after atom, all rows are told, whether they are put
--- or only their lengths added.
+-- The row of an atom, by the residue where the walk stands and its number, is the row of the model; and so, atom after atom, all rows are told.
 use mathlib.Core.Path.{◌≡◌, sym, ap, ◌∙◌, subst}
 use mathlib.Core.Bool.{true}
 use mathlib.Core.List.{List, [], ◌++◌}

@@ -1,5 +1,4 @@
 pub mod AtomRows
-pub mod EndsLaws
 pub mod ListsByIndex
 pub mod ModelWalk
 pub mod NameBytes

@@ -1,4 +1,4 @@
--- Residue after residue the rows of the polymer list are told, whether they are put or only their lengths added: a residue of a polymer has a row, which says its number.
+-- Residue after residue the rows of the polymer list are told: a residue of a polymer has a row, which says its number.
 use mathlib.Core.Path.{◌≡◌, sym, ap, ◌∙◌, subst}
 use mathlib.Core.Bool.{true}
 use mathlib.Core.List.{List, [], ◌++◌, map}

@@ -3,6 +3,7 @@ use mathlib.Core.Path.{◌≡◌, sym, ap, ◌∙◌}
 use mathlib.Core.Bool.{Bool, true, false, ◌||◌, cond}
 use Prim.Native.Nat.{ℕ, suc, ◌+◌, ◌≤◌, ◌<◌}
 use native.Mathlib.Numerals.{add-one}
+use Rattle.std.specs.Prelude.{Option, None, Some}
 use lib.ListN.{get_or, take}
 use Rattle.model.specs.Keys.{chain_part, code_part}
 use Rattle.model.specs.Lent.{Lent, atom_in, model_in}
@@ -22,7 +23,7 @@ module _ (l : Lent) (counts : Room) where
   model = model_in l counts
 
   -- the first unwritable one of those from index i on
-  abbrev pub left_from : ℕ → ℕ
+  abbrev pub left_from : ℕ → Option ℕ
   left_from i = first_unwritable model (suc i) (rest (atom_in l) counts.atoms i)
 
   -- what the walk sees of the atom at index i
@@ -33,7 +34,7 @@ module _ (l : Lent) (counts : Room) where
   unfolding model_in
   left_all = ap (first_unwritable model 1) (rest_all (atom_in l) counts.atoms)
 
-  pub left_none : (i : ℕ) → counts.atoms ≤ i → left_from i ≡ 0
+  pub left_none : (i : ℕ) → counts.atoms ≤ i → left_from i ≡ None
   unfolding first_unwritable
   left_none i h = ap (first_unwritable model (suc i)) (rest_end (atom_in l) counts.atoms i h)
 
@@ -44,16 +45,16 @@ module _ (l : Lent) (counts : Room) where
         ap (λ (r : Residue). holds_both_quotes (atom_in l i).name || holds_both_quotes r.name || holds_both_quotes (get_or (take counts.chains l.chains) (chain_part (atom_in l i).key) 0) || is_unwritable_code (code_part (atom_in l i).key))
         (walk_residue l counts well i h w before)
 
-    turn : left_from i ≡ cond (seen_at i w) (suc i) (left_from (i + 1))
+    turn : left_from i ≡ cond (seen_at i w) (Some (suc i)) (left_from (i + 1))
     unfolding first_unwritable
     turn =
         ap (first_unwritable model (suc i)) (rest_turn (atom_in l) counts.atoms i h)
-        ∙ ap (λ (b : Bool). cond b (suc i) (first_unwritable model (suc (suc i)) (rest (atom_in l) counts.atoms (i + 1)))) (sym as_seen)
-        ∙ ap (λ (n : ℕ). cond (seen_at i w) (suc i) (first_unwritable model (suc n) (rest (atom_in l) counts.atoms (i + 1)))) (sym (add-one i))
+        ∙ ap (λ (b : Bool). cond b (Some (suc i)) (first_unwritable model (suc (suc i)) (rest (atom_in l) counts.atoms (i + 1)))) (sym as_seen)
+        ∙ ap (λ (n : ℕ). cond (seen_at i w) (Some (suc i)) (first_unwritable model (suc n) (rest (atom_in l) counts.atoms (i + 1)))) (sym (add-one i))
 
     module _ (answer : Bool) (is : answer ≡ seen_at i w) where
-      pub left_found : answer ≡ true → left_from i ≡ i + 1
-      left_found e = turn ∙ ap (λ (b : Bool). cond b (suc i) (left_from (i + 1))) (sym is ∙ e) ∙ sym (add-one i)
+      pub left_found : answer ≡ true → left_from i ≡ Some (i + 1)
+      left_found e = turn ∙ ap (λ (b : Bool). cond b (Some (suc i)) (left_from (i + 1))) (sym is ∙ e) ∙ ap Some (sym (add-one i))
 
       pub left_on : answer ≡ false → left_from i ≡ left_from (i + 1)
-      left_on e = turn ∙ ap (λ (b : Bool). cond b (suc i) (left_from (i + 1))) (sym is ∙ e)
+      left_on e = turn ∙ ap (λ (b : Bool). cond b (Some (suc i)) (left_from (i + 1))) (sym is ∙ e)

@@ -15,10 +15,10 @@ use Rattle.model.specs.Records.{Model}
 use Rattle.model.specs.WellFormed.{same_list, runs_of, is_name, is_near, chains_well, residue_well, atom_well, in_runs, in_order, well_formed, counts_fit, well_formed_in}
 use Rattle.model.proofs.ListLaws.{left_of, right_of}
 use Rattle.model.specs.declared.room.Room.{Room}
-use Rattle.wellformed.specs.Slices.{entries, residues_ascend}
+use Rattle.wellformed.specs.Slices.{entries, residues_ascend, Within}
 use Rattle.wellformed.proofs.FromLaws.{rest, rest_all}
 use Rattle.wellformed.proofs.SliceLaws.{map_from}
-use Rattle.wellformed.proofs.WholeModel.{WithinOf, within_all}
+use Rattle.wellformed.proofs.WholeModel.{within_all}
 use Rattle.writer.proofs.ListsByIndex.{from_every}
 
 least : (n a b : ℕ) → n ≤ min a b → n ≤ a
@@ -33,7 +33,7 @@ module _ (l : Lent) (counts : Room) (well : well_formed_in l counts ≡ true) wh
   unfolding well_formed_in
   fit = left_of (counts_fit l counts) (well_formed model) well
 
-  pub counted : WithinOf l counts
+  pub counted : Within l counts
   counted = within_all l counts fit
 
   pub few_residues : counts.residues ≤ 65536

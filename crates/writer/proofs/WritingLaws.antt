@@ -2,10 +2,11 @@
 use mathlib.Core.Path.{◌≡◌, refl, sym, ap, ◌∙◌, subst}
 use mathlib.Core.Bool.{Bool, true, false, cond}
 use mathlib.Core.List.{List}
-use Prim.Native.Nat.{ℕ, zero, suc, ◌≤◌, ◌<◌}
+use Prim.Native.Nat.{ℕ, ◌≤◌, ◌<◌}
 use lib.ListN.{length}
 use lib.Seq.{sets}
 use borrow.Author.Tests.{le-leb, lt-leb}
+use Rattle.std.specs.Prelude.{Option, None, Some, Ok, Err}
 use Rattle.refusals.specs.declared.reasons.Reason.{Reason}
 use Rattle.refusals.specs.declared.reasons.Reason.TheVariants.{NotWellFormed, CannotBeWritten, OutputTooShort}
 use Rattle.model.specs.Lent.{Lent, model_in}
@@ -15,44 +16,39 @@ use Rattle.model.specs.declared.room.Room.{Room}
 use Rattle.writer.specs.Text.{text_of}
 use Rattle.writer.specs.Unwritable.{unwritable_in}
 use Rattle.writer.specs.Writing.{Writing, written, refused, fitted, written_but, writing_of, write_of, Wrote}
-use Rattle.writer.specs.declared.answers.Answer.{Answer}
 
 -- a writing refused leaves the buffer as it was
-refuses : (out : List ℕ) (writing : Writing) (why : Reason) → writing ≡ refused why → Wrote out writing (Answer.Refused why) out
-refuses out writing why e = subst (λ (w : Writing). Wrote out w (Answer.Refused why) out) (sym e) (record { answered = refl; left = refl })
+refuses : (out : List ℕ) (writing : Writing) (why : Reason) → writing ≡ refused why → Wrote out writing (Err why) out
+refuses out writing why e = subst (λ (w : Writing). Wrote out w (Err why) out) (sym e) (record { answered = refl; left = refl })
 
 -- ---- 14
 module _ (out text : List ℕ) where
-  pub too_short : (needed : ℕ) → needed ≡ length text → length out < needed → Wrote out (fitted (length out) text) (Answer.Refused (OutputTooShort needed)) out
+  pub too_short : (needed : ℕ) → needed ≡ length text → length out < needed → Wrote out (fitted (length out) text) (Err (OutputTooShort needed)) out
   too_short needed e h =
       refuses out (fitted (length out) text) (OutputTooShort needed)
       (ap (λ (b : Bool). cond b (written text) (refused (OutputTooShort (length text)))) (lt-leb (length text) (length out) (subst (λ (n : ℕ). length out < n) e h))
       ∙ ap (λ (n : ℕ). refused (OutputTooShort n)) (sym e))
 
-  pub all_written : (end : ℕ) (after : List ℕ) → length text ≤ length out → end ≡ length text → after ≡ sets out 0 text → Wrote out (fitted (length out) text) (Answer.Written end) after
+  pub all_written : (end : ℕ) (after : List ℕ) → length text ≤ length out → end ≡ length text → after ≡ sets out 0 text → Wrote out (fitted (length out) text) (Ok end) after
   all_written end after h e f =
-      subst (λ (w : Writing). Wrote out w (Answer.Written end) after)
+      subst (λ (w : Writing). Wrote out w (Ok end) after)
       (sym (ap (λ (b : Bool). cond b (written text) (refused (OutputTooShort (length text)))) (le-leb (length text) (length out) h)))
-      (record { answered = ap Answer.Written e; left = f })
+      (record { answered = ap Ok e; left = f })
 
 -- ---- 13
-module _ (out : List ℕ) (m : Model) (atom : ℕ) (is : atom ≡ unwritable_in m) where
-  pub unwritable : (atom ≡ 0 → ⊥) → Wrote out (writing_of (length out) m) (Answer.Refused (CannotBeWritten atom)) out
-  unwritable h = refuses out (writing_of (length out) m) (CannotBeWritten atom) (ap (λ (n : ℕ). written_but n (length out) m) (sym is) ∙ go atom h)
-    where
-      go : (n : ℕ) → (n ≡ 0 → ⊥) → written_but n (length out) m ≡ refused (CannotBeWritten n)
-      go zero h = absurd (h refl)
-      go (suc n) h = refl
+module _ (out : List ℕ) (m : Model) where
+  pub unwritable : (atom : ℕ) → Some atom ≡ unwritable_in m → Wrote out (writing_of (length out) m) (Err (CannotBeWritten atom)) out
+  unwritable atom is = refuses out (writing_of (length out) m) (CannotBeWritten atom) (ap (λ (o : Option ℕ). written_but o (length out) m) (sym is))
 
-  pub writable : atom ≡ 0 → fitted (length out) (text_of m) ≡ writing_of (length out) m
-  writable e = ap (λ (n : ℕ). written_but n (length out) m) (sym e ∙ is)
+  pub writable : None ≡ unwritable_in m → fitted (length out) (text_of m) ≡ writing_of (length out) m
+  writable is = ap (λ (o : Option ℕ). written_but o (length out) m) is
 
 -- ---- 12
 module _ (out : List ℕ) (l : Lent) (counts : Room) where
   abbrev writing : Bool → Writing
   writing b = cond b (writing_of (length out) (model_in l counts)) (refused NotWellFormed)
 
-  pub not_well_formed : well_formed_in l counts ≡ false → Wrote out (write_of l counts (length out)) (Answer.Refused NotWellFormed) out
+  pub not_well_formed : well_formed_in l counts ≡ false → Wrote out (write_of l counts (length out)) (Err NotWellFormed) out
   unfolding write_of
   not_well_formed e = refuses out (writing (well_formed_in l counts)) NotWellFormed (ap writing e)
 

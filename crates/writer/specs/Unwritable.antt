@@ -1,5 +1,5 @@
 -- What no text can hold: a name with both quotes, or an insertion code that is blank, tab, quote, `.` or `?`.
-use Rattle.std.specs.Prelude.{ℕ, suc, Bool, ◌&&◌, ◌||◌, cond, List, [], ◌∷◌, eqb, get_or}
+use Rattle.std.specs.Prelude.{ℕ, suc, Bool, ◌&&◌, ◌||◌, cond, List, [], ◌∷◌, eqb, get_or, Option, None, Some}
 use Rattle.ascii.specs.Bytes.{byte}
 use Rattle.tokens.specs.Quote.{has}
 use Rattle.names.specs.Packing.{unpacked}
@@ -22,11 +22,11 @@ is_unwritable m a =
     || holds_both_quotes (get_or m.chains (chain_part a.key) 0)
     || is_unwritable_code (code_part a.key)
 
--- the id of the first such atom, where the first of them has this one; 0 where there is none
-unfoldable pub first_unwritable : Model → ℕ → List AtomRecord → ℕ
-first_unwritable m id [] = 0
-first_unwritable m id (a ∷ atoms) = cond (is_unwritable m a) id (first_unwritable m (suc id) atoms)
+-- the id of the first such atom, where the first of them has this one
+unfoldable pub first_unwritable : Model → ℕ → List AtomRecord → Option ℕ
+first_unwritable m id [] = None
+first_unwritable m id (a ∷ atoms) = cond (is_unwritable m a) (Some id) (first_unwritable m (suc id) atoms)
 
 -- of a whole model
-abbrev pub unwritable_in : Model → ℕ
+abbrev pub unwritable_in : Model → Option ℕ
 unwritable_in m = first_unwritable m 1 m.atoms

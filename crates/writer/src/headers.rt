@@ -1,4 +1,6 @@
 // The lines in front of the rows.
+#![tactic(auto, unfolding(crate::specs::Text::lines_text))]
+
 ghost use Rattle.row_texts.specs.Emitted.{Emits};
 ghost use Rattle.writer.specs.Text.{lines_text, opening, polymer_headers, atom_headers};
 

@@ -1,14 +1,28 @@
--- The code tests what `all_digits` tests: that there is a byte, and that the run of digits is the whole text.
+-- There is a byte, and every byte is a digit.
+use mathlib.Core.Path.{sym, ap, ◌∙◌}
+use mathlib.Core.Bool.{not}
 use native.Mathlib.Omega.{arith}
 use lib.ListN.{length}
-use borrow.Author.Tests.{lt-ltb, le-ltb}
-use Rattle.ascii.specs.Digits.{all_digits}
+use borrow.Author.Tests.{tests, eqb-true, eqb-false, lt-ltb, le-ltb}
+use Rattle.std.proofs.Common.{rules}
+use Rattle.std.proofs.lemmas.Iterator.{YieldsList-from_slice}
+use Rattle.std.proofs.lemmas.Iterator.Search.{all_from_yields_List}
+use Rattle.ascii.specs.Digits.{is_digit, all_digits}
+use Rattle.ascii.proofs.DigitLaws.{all_passed}
 use Rattle.ascii.proofs.digits.all_digits.Goals as goal
 
-pub returns-then-s-eq0 : goal.returns-then-s-eq0
+pub returns-then-not-is_empty : goal.returns-then-not-is_empty
 unfolding all_digits
-returns-then-s-eq0 c = let s = c.args.s.now in simp (le-ltb 0 (length s) (omega arith))
+returns-then-not-is_empty c =
+    let s = c.args.s.now in
+    let some = eqb-false (length s) 0 (sym c.is_empty.ensures ∙ c.if-not-is_empty.true) in
+    all_from_yields_List is_digit _ _ _ c.all.ensures.ran (YieldsList-from_slice s cc) (λ x r q k. search (rules, tests))
+    ∙ all_passed s
+    ∙ simp (lt-ltb 0 (length s) (omega arith))
 
-pub returns : goal.returns
+pub returns-else-not-is_empty : goal.returns-else-not-is_empty
 unfolding all_digits
-returns c = let s = c.args.s.now in simp (lt-ltb 0 (length s) (omega arith), c.count_digits.ensures)
+returns-else-not-is_empty c =
+    let s = c.args.s.now in
+    let none = eqb-true (length s) 0 (sym c.is_empty.ensures ∙ c.if-not-is_empty.false) in
+    ap not c.if-not-is_empty.false ∙ sym (simp (le-ltb 0 (length s) (omega arith)))

@@ -17,19 +17,19 @@ same_first : (n count : ℕ) (chains : List ℕ) → count ≡ min n (length cha
 same_first n count chains e = ap (λ (m : ℕ). take m chains) e ∙ first_counted n chains
 
 pub walk-place-requires : goal.walk-place-requires
-walk-place-requires c = (omega (arith, c.smaller-count.ensures), omega (arith, c.smaller-from.ensures))
+walk-place-requires c = (omega (arith, c.min-count.ensures), omega (arith, c.min-from.ensures))
 
 pub returns-then-place-count : goal.returns-then-place-count
 returns-then-place-count c =
     let a = c.args in
-    let from = c.smaller-from.result in
+    let from = c.min-from.result in
     walked_from a.name (take a.n a.chains.now) from c.walk-place.result
-    (c.walk-place.ensures ∙ ap (λ (l : List ℕ). from + chain_place a.name (drop from l)) (same_first a.n c.smaller-count.result a.chains.now c.smaller-count.ensures)) (omega (arith, counted a.n c.smaller-count.result a.chains.now c.smaller-count.ensures, c.if-place-count.true))
+    (c.walk-place.ensures ∙ ap (λ (l : List ℕ). from + chain_place a.name (drop from l)) (same_first a.n c.min-count.result a.chains.now c.min-count.ensures)) (omega (arith, counted a.n c.min-count.result a.chains.now c.min-count.ensures, c.if-place-count.true))
 
 pub walk-requires : goal.walk-requires
-walk-requires c = (omega (arith, c.smaller-count.ensures), omega arith)
+walk-requires c = (omega (arith, c.min-count.ensures), omega arith)
 
 pub returns : goal.returns
 returns c =
     let a = c.args in
-    walked a.name (take a.n a.chains.now) c.walk.result (omega (arith, c.walk.ensures, ap (chain_place a.name) (same_first a.n c.smaller-count.result a.chains.now c.smaller-count.ensures)))
+    walked a.name (take a.n a.chains.now) c.walk.result (omega (arith, c.walk.ensures, ap (chain_place a.name) (same_first a.n c.min-count.result a.chains.now c.min-count.ensures)))

@@ -1,5 +1,5 @@
 -- One residue of the pocket after the other goes over into main; after the last the pocket is empty.
-use mathlib.Core.Path.{◌≡◌, refl, sym, ◌∙◌, subst}
+use mathlib.Core.Path.{◌≡◌, refl, sym, ap, ◌∙◌, subst}
 use Prim.Native.Nat.{ℕ, ◌^◌, ◌≤◌, ◌<◌}
 use native.Mathlib.Numerals.{add-one}
 use native.Mathlib.Omega.{arith}
@@ -8,56 +8,50 @@ use Rattle.gapped_slices.specs.Areas.{many}
 use Rattle.model.specs.Fold.{Residue}
 use Rattle.model.specs.Map.{Map}
 use Rattle.building.specs.declared.stores.Store.{Store}
-use Rattle.building.specs.Kinds.{ResidueSlices, residues_of, ResiduesIn, ResiduesLong}
+use Rattle.building.specs.Kinds.{ResidueSlices, residues_now, residue_entry_at, ResiduesIn, ResiduesLong}
 use Rattle.building.specs.Stores.{emptied_area, Apart}
-use Rattle.building.proofs.EmptyingLaws.{Emptying, empties_first, emptied_apart, none_in_pocket}
-use Rattle.building.proofs.ResidueStores.{no_residues}
+use Rattle.building.proofs.ResidueStores.{no_residues, residues_put_same}
 use Rattle.building.proofs.ResiduesEmptied.{still_long, residue_over}
+use Rattle.building.proofs.EmptyingLaws.{Emptying, empties_first, emptied_apart, none_in_pocket}
+use Rattle.building.proofs.SameSlices.{residues_kept}
 use Rattle.building.proofs.StoreLaws.{lies_pocket}
 use Rattle.building.proofs.residues.empty_pocket.Goals as goal
 
 pub loop-k-init : goal.loop-k-init
 loop-k-init c = (
+  ((refl, refl, refl, refl, refl), refl, refl),
   record { keys = refl; names = refl; marks = refl },
-  omega arith,
-  λ room small long m h all. empties_first (ResiduesIn (residues_of c.args.keys.now c.args.names.now c.args.marks.now)) room c.args.store m h,
+  λ room small long m h all. empties_first (ResiduesIn (residues_now c.args.residues.now)) room c.args.store m h,
 )
-
-pub overflow_add-k : goal.overflow_add-k
-overflow_add-k c = record { fits = omega (arith, c.loop-k-test.true, c.entries_of-many.type_inv) }
-
-pub loop-k-smaller : goal.loop-k-smaller
-loop-k-smaller c = let taken = c.loop-k-test.true in omega (arith, taken)
 
 pub loop-k-preserved : goal.loop-k-preserved
 loop-k-preserved c =
-    let entry : ResidueSlices = residues_of c.args.keys.now c.args.names.now c.args.marks.now in
-    let here : ResidueSlices = residues_of c.loop-k.keys c.loop-k.names c.loop-k.marks in
-    let after : ResidueSlices = residues_of c.put_in.new.keys c.put_in.new.names c.put_in.new.marks in
-    let put = c.put_in.ensures in
-    let so_far = c.loop-k.invariant.0 in
-    let taken = c.loop-k-test.true in (
+    let entry : ResidueSlices = residues_now c.args.residues.now in
+    let here : ResidueSlices = residues_now c.loop-k.residues in
+    let after : ResidueSlices = residues_now c.put_residue.new.residues in
+    let puts = c.put_residue.ensures.puts in
+    let put = residues_put_same here after c.loop-k.main c.place_of-at.result c.residue_at-residue.result puts in
+    let so_far = c.loop-k.invariant.1 in (
+      residues_kept c.args.residues.now c.loop-k.residues c.put_residue.new.residues c.loop-k.invariant.0 c.put_residue.ensures.same,
       record {
-        keys = put.puts_in.elsewhere.long ∙ so_far.keys;
-        names = put.puts_in_2.elsewhere.long ∙ so_far.names;
-        marks = put.puts_in_3.elsewhere.long ∙ so_far.marks;
+        keys = put.keys ∙ so_far.keys;
+        names = put.names ∙ so_far.names;
+        marks = put.marks ∙ so_far.marks;
       },
-      omega (arith, taken),
       λ room small long m h all.
-          let low : c.loop-k.k < many c.args.store.pocket = omega (arith, taken, all) in
+          let low : c.loop-k.k < many c.args.store.pocket = omega (arith, c.loop-k-test.true, all) in
           let lies = lies_pocket room c.args.store h.lays room (omega arith) in
+          let read = c.residue_at-residue.ensures ∙ ap (residue_entry_at here) (c.stand-from.ensures room lies low) in
           subst (λ (n : ℕ). Emptying (ResiduesIn after) c.args.store h.second m n c.with_entry-main.result) (sym (add-one c.loop-k.k))
           (residue_over entry here after room small (still_long entry here room so_far long) c.args.store m h c.loop-k.k low c.loop-k.main
-          (c.loop-k.invariant.2 room small long m h all)
-          c.stand-at.result c.u64_at-key.result c.u64_at-name.result c.u8_at-mark.result
-          (c.stand-at.ensures room lies low) c.u64_at-key.ensures c.u64_at-name.ensures c.u8_at-mark.ensures
-          c.spot_in_key-spot.result c.spot_in_key-spot.ensures c.with_entry-main.result c.with_entry-main.ensures put.puts_in put.puts_in_2 put.puts_in_3),
+          (c.loop-k.invariant.2 room small long m h all) c.residue_at-residue.result read c.residue_spot.result c.residue_spot.ensures
+          c.place_of-at.result c.place_of-at.ensures c.with_entry-main.result c.with_entry-main.ensures puts),
     )
 
 pub returns : goal.returns
 returns c =
-    let entry : ResidueSlices = residues_of c.args.keys.now c.args.names.now c.args.marks.now in
-    let here : ResidueSlices = residues_of c.loop-k.keys c.loop-k.names c.loop-k.marks in
+    let entry : ResidueSlices = residues_now c.args.residues.now in
+    let here : ResidueSlices = residues_now c.loop-k.residues in
     let store = c.args.store in
     let after-all : Store = record { main = c.loop-k.main; pocket = c.emptied.result; credit = store.credit } in
     let nothing = no_residues here (emptied_area store.pocket) refl in
@@ -69,13 +63,16 @@ returns c =
     let none_left : (room : ℕ) (m : Map Residue) → ResiduesLong entry room → (h : Apart (ResiduesIn entry) room store m) → length h.second ≤ c.loop-k.k
     = λ room m long h. omega (arith, h.pocket.many, all room m long h, c.loop-k-test.false) in
     let no_more : (room : ℕ) (m : Map Residue) → ResiduesLong entry room → Apart (ResiduesIn entry) room store m → c.loop-k.k ≤ many store.pocket
-    = λ room m long h. omega (arith, all room m long h, c.loop-k.invariant.1) in
+    = λ room m long h. omega (arith, all room m long h, c.loop-k.auto.k-end) in
     record {
       same = c.loop-k.invariant.0;
-      apart = λ room m long h.
-          emptied_apart (ResiduesIn entry) (ResiduesIn here) room store m h c.loop-k.k (none_left room m long h) (no_more room m long h) c.loop-k.main (over room m long h)
-          nothing after-all refl c.emptied.ensures;
-      none = λ room m long h.
-          none_in_pocket (ResiduesIn entry) (ResiduesIn here) room store m h c.loop-k.k (none_left room m long h) (no_more room m long h) c.loop-k.main (over room m long h)
-          nothing after-all refl c.emptied.ensures;
+      empties = record {
+        same = c.loop-k.invariant.1;
+        apart = λ room m long h.
+            emptied_apart (ResiduesIn entry) (ResiduesIn here) room store m h c.loop-k.k (none_left room m long h) (no_more room m long h) c.loop-k.main (over room m long h)
+            nothing after-all refl c.emptied.ensures;
+        none = λ room m long h.
+            none_in_pocket (ResiduesIn entry) (ResiduesIn here) room store m h c.loop-k.k (none_left room m long h) (no_more room m long h) c.loop-k.main (over room m long h)
+            nothing after-all refl c.emptied.ensures;
+      };
     }

@@ -3,7 +3,7 @@ use mathlib.Core.Path.{◌∙◌}
 use Prim.Native.Nat.{◌^◌, ◌<◌}
 use native.Mathlib.Omega.{arith}
 use Rattle.gapped_slices.specs.Areas.{many}
-use Rattle.building.specs.Kinds.{ResidueSlices, residues_of, ResiduesIn}
+use Rattle.building.specs.Kinds.{ResidueSlices, residues_of, residues_now, ResiduesIn}
 use Rattle.building.proofs.ResidueStores.{residues_first}
 use Rattle.building.proofs.ResiduesEmptied.{still_long}
 use Rattle.building.proofs.StoreLaws.{main_alone}
@@ -11,24 +11,26 @@ use Rattle.building.proofs.residues.gather_residues.Goals as goal
 
 pub returns : goal.returns
 returns c =
-    let a = c.args in
     let emptied = c.empty_pocket-store in
-    let entry : ResidueSlices = residues_of a.keys.now a.names.now a.marks.now in
-    let mid : ResidueSlices = residues_of emptied.new.keys emptied.new.names emptied.new.marks in
-    let keys = c.move_in_u64 in
-    let names = c.move_in_u64-2 in
-    let marks = c.move_in_u8 in
+    let empties = emptied.ensures.empties in
+    let entry : ResidueSlices = residues_now c.args.residues.now in
+    let mid : ResidueSlices = residues_now emptied.new.residues in
+    let gathered : ResidueSlices = residues_of c.move_in.new.slice c.move_in-2.new.slice c.move_in-3.new.slice in
+    let same = empties.same in
     record {
-      same = record {
-        keys = keys.ensures.elsewhere.long ∙ emptied.ensures.same.keys;
-        names = names.ensures.elsewhere.long ∙ emptied.ensures.same.names;
-        marks = marks.ensures.elsewhere.long ∙ emptied.ensures.same.marks;
+      same = emptied.ensures.same;
+      gathered = record {
+        same = record {
+          keys = c.move_in.ensures.elsewhere.long ∙ same.keys;
+          names = c.move_in-2.ensures.elsewhere.long ∙ same.names;
+          marks = c.move_in-3.ensures.elsewhere.long ∙ same.marks;
+        };
+        front = λ room m long h.
+            let held = empties.apart room m long h in
+            let alone = main_alone (ResiduesIn mid) room emptied.result m held (empties.none room m long h) in
+            let low : many emptied.result.main < 2 ^ 64 = omega (arith, held.lays.fits, held.lays.ordered, held.lays.inside, long.keys) in
+            residues_first mid gathered room (still_long entry mid room same long) emptied.result.main c.entries_of-many.result (c.entries_of-many.ensures low)
+            held.lays.start (omega (arith, held.lays.fits)) (omega (arith, held.lays.ordered, held.lays.inside)) m alone
+            c.move_in.ensures c.move_in-2.ensures c.move_in-3.ensures;
       };
-      front = λ room m long h.
-          let held = emptied.ensures.apart room m long h in
-          let alone = main_alone (ResiduesIn mid) room emptied.result m held (emptied.ensures.none room m long h) in
-          let low : many emptied.result.main < 2 ^ 64 = omega (arith, held.lays.fits, held.lays.ordered, held.lays.inside, long.keys) in
-          residues_first mid (residues_of keys.new.words names.new.words marks.new.bytes) room (still_long entry mid room emptied.ensures.same long) emptied.result.main
-          c.entries_of-many.result (c.entries_of-many.ensures low) held.lays.start (omega (arith, held.lays.fits)) (omega (arith, held.lays.ordered, held.lays.inside)) m alone
-          keys.ensures names.ensures marks.ensures;
     }

@@ -4,4 +4,4 @@ use lib.Dec.{ltb}
 use Rattle.building.proofs.stores.has_room.Goals as goal
 
 pub returns : goal.returns
-returns c = ap (ltb c.args.n) c.rest.ensures
+returns c = ap (ltb c.args.n) c.saturating_sub.ensures

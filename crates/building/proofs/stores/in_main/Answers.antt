@@ -3,4 +3,4 @@ use mathlib.Core.Path.{refl}
 use Rattle.building.proofs.stores.in_main.Goals as goal
 
 pub returns : goal.returns
-returns c = λ countable within. record { main = c.with_entry-main.ensures countable within; pocket = refl }
+returns c = λ countable within. record { main = c.with_entry.ensures countable within; pocket = refl }

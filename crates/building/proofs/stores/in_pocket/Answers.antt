@@ -3,4 +3,4 @@ use mathlib.Core.Path.{refl}
 use Rattle.building.proofs.stores.in_pocket.Goals as goal
 
 pub returns : goal.returns
-returns c = λ countable within. record { main = refl; pocket = c.with_entry-pocket.ensures countable within }
+returns c = λ countable within. record { main = refl; pocket = c.with_entry.ensures countable within }

@@ -9,13 +9,13 @@ pub returns-then-not-is_far : goal.returns-then-not-is_far
 returns-then-not-is_far c = λ room l small.
     let pocket = c.entries_of-many.ensures (omega (arith, l.fits, l.ordered, l.inside, small)) in
     let main = c.entries_of.ensures (omega (arith, l.fits, l.ordered, l.inside, small)) in
-    omega (arith, c.if-rest-many.false, c.rest.ensures, pocket, main)
+    omega (arith, c.if-saturating_sub-many.false, c.saturating_sub.ensures, pocket, main)
 
 pub returns-then-has_room : goal.returns-then-has_room
 returns-then-has_room c = λ room l small.
     let pocket = c.entries_of-many.ensures (omega (arith, l.fits, l.ordered, l.inside, small)) in
     let main = c.entries_of.ensures (omega (arith, l.fits, l.ordered, l.inside, small)) in
     let area = c.args.store.pocket in (
-      omega (arith, c.if-rest-many.false, c.rest.ensures, pocket, main),
+      omega (arith, c.if-saturating_sub-many.false, c.saturating_sub.ensures, pocket, main),
       omega (arith, pocket, ltb-true c.entries_of-many.result (area.to - area.from) (sym c.has_room.ensures ∙ c.if-has_room.true)),
     )

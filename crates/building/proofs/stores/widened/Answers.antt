@@ -18,11 +18,11 @@ returns-then-n-main c = λ l none more.
 pub returns : goal.returns
 returns c = λ l none more.
     let a = c.args in
-    let mid = c.rest-mid.result in
+    let mid = c.saturating_sub-mid.result in
     let n : c.entries_of-n.result ≡ many a.store.main = c.entries_of-n.ensures (omega (arith, more)) in
     let full : many a.store.main ≡ a.store.main.to = omega (arith, n, none, l.fits, c.if-n-main.false) in
-    let left = ap (λ (k : ℕ). min 2048 (k / 8)) (c.rest.ensures ∙ ap (λ (k : ℕ). a.room - k) (sym full)) in
-    let w = wider (many a.store.main) a.room mid c.smaller-size.result more (c.smaller-size.ensures ∙ left) c.rest-mid.ensures in
+    let left = ap (λ (k : ℕ). min 2048 (k / 8)) (c.saturating_sub.ensures ∙ ap (λ (k : ℕ). a.room - k) (sym full)) in
+    let w = wider (many a.store.main) a.room mid c.min-size.result more (c.min-size.ensures ∙ left) c.saturating_sub-mid.ensures in
     record {
       lays = record {
         start = refl;

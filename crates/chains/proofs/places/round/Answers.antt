@@ -1,4 +1,4 @@
--- The three cases of `round_at`: on from the first place, from the start again, and past the last.
+-- The three cases of `round_at`: past the last, on from the first place, and from the start again.
 use Rattle.std.proofs.Common.{◌≡◌, ◌-◌, ℕ, min, sym, ◌∙◌, ap, arith}
 use Rattle.chains.proofs.PlaceLaws.{round_on, round_again, round_past}
 use Rattle.chains.proofs.places.round.Goals as goal
@@ -7,19 +7,16 @@ use Rattle.chains.proofs.places.round.Goals as goal
 ahead : (first many n : ℕ) → n ≡ min first many → many - n ≡ many - first
 ahead first many n e = omega arith
 
-pub overflow_add-result : goal.overflow_add-result
-overflow_add-result c = omega (arith, c.smaller.ensures)
+pub returns-then-many-k : goal.returns-then-many-k
+returns-then-many-k c = let a = c.args in sym (round_past a.many a.first a.k c.if-many-k.true)
 
 pub returns-then-k-ahead : goal.returns-then-k-ahead
 returns-then-k-ahead c =
     let a = c.args in
-    sym (round_on a.many a.first a.k c.if-k-many.true (omega (arith, ahead a.first a.many _ c.smaller.ensures, c.if-k-ahead.true)))
+    sym (round_on a.many a.first a.k (omega arith) (omega (arith, ahead a.first a.many _ c.min.ensures)))
 
-pub returns-then-k-many : goal.returns-then-k-many
-returns-then-k-many c =
+pub returns-else-k-ahead : goal.returns-else-k-ahead
+returns-else-k-ahead c =
     let a = c.args in
-    let e = ahead a.first a.many _ c.smaller.ensures in
-    ap (λ (m : ℕ). a.k - m) e ∙ sym (round_again a.many a.first a.k c.if-k-many.true (omega (arith, e, c.if-k-ahead.false)))
-
-pub returns : goal.returns
-returns c = let a = c.args in sym (round_past a.many a.first a.k c.if-k-many.false)
+    let e = ahead a.first a.many _ c.min.ensures in
+    ap (λ (m : ℕ). a.k - m) e ∙ sym (round_again a.many a.first a.k (omega arith) (omega (arith, e)))

@@ -1,11 +1,15 @@
-use Prim.Native.Nat.{◌-◌}
-use lib.ListN.{take}
+use Rattle.std.proofs.Common.{◌≡◌, take}
+use Rattle.model.specs.LentNow.{SameResidues}
 use Rattle.finishing.proofs.ClassingLaws.{Classing}
 use Rattle.finishing.proofs.classes.classify_residues.Given as goal
 
 abbrev pub invariant-loop-i : goal.invariant-loop-i
 invariant-loop-i l =
-    Classing l.keys l.initial.names l.initial.codes l.initial.categories (take l.atoms l.atom_keys) l.residues l.names l.codes l.categories l.at l.i
-
-abbrev pub decreases-loop-i : goal.decreases-loop-i
-decreases-loop-i l = l.residues - l.i
+    let first = l.fn.residues in record {
+      same : SameResidues first l.residues;
+      keys : l.residues.keys.now ≡ first.keys.now;
+      positions : l.residues.positions.now ≡ first.positions.now;
+      classing :
+          Classing first.keys.now first.names.now first.codes.now first.categories.now (take l.counts.atoms l.atoms.keys.now) l.counts.residues l.residues.names.now l.residues.codes.now
+          l.residues.categories.now l.at l.i;
+    }

@@ -1,8 +1,7 @@
 -- What is left of the text from a place on begins with the line: before its first 10, or all of it where none is.
--- a text in which no 10 is
-use mathlib.Core.Path.{refl, ap, subst, ◌∙◌}
+use mathlib.Core.Path.{◌≡◌, refl, ap, subst, ◌∙◌}
 use mathlib.Core.List.{List}
-use Prim.Native.Nat.{ℕ, ◌-◌, ◌≤◌}
+use Prim.Native.Nat.{ℕ, ◌-◌}
 use native.Mathlib.Omega.{arith}
 use lib.ListN.{length, take, drop}
 use Rattle.ascii.proofs.ListLaws.{tail_is}
@@ -10,31 +9,30 @@ use Rattle.lines.specs.Lines.{feed_place, line_length}
 use Rattle.lines.proofs.LineLaws.{ended_line, unended_line, length_fits}
 use Rattle.lines.proofs.lines.line_at.Goals as goal
 
-abbrev Ended : List ℕ → Type 0
-Ended l = length l ≤ feed_place l
-
 pub returns-then-size-from : goal.returns-then-size-from
 returns-then-size-from c = record { line = λ h. absurd (omega arith); past = λ h. refl }
 
-pub returns-then-rest-feed : goal.returns-then-rest-feed
-returns-then-rest-feed c =
+pub returns-in_default : goal.returns-in_default
+returns-in_default c =
     let text = c.args.text.now in
     let from = c.args.from in
-    let none = subst Ended (tail_is from text) (rw c.feed_place-feed.ensures at c.if-rest-feed.true) in
-    record { line = λ h. unended_line text from h none; past = λ h. absurd (omega arith) }
+    let none = subst (λ (l : List ℕ). feed_place l ≡ length l) (tail_is from text) c.in_default.ensures in
+    record { line = λ h. unended_line text from h (omega arith); past = λ h. absurd (omega arith) }
 
 pub overflow_add-result : goal.overflow_add-result
 overflow_add-result c =
     let text = c.args.text.now in
     let from = c.args.from in
-    omega (arith, length_fits (take (length text - from) (drop from text)) c.feed_place-feed.result)
+    let found = c.in-Some.ensures in
+    omega (arith, found.1, length_fits (take (length text - from) (drop from text)) c.in-Some.feed)
 
 pub returns : goal.returns
 returns c =
     let text = c.args.text.now in
     let from = c.args.from in
-    let feed = c.feed_place-feed.result in
+    let feed = c.in-Some.feed in
+    let found = c.in-Some.ensures in
     record {
-      line = λ h. ended_line text from h (c.feed_place-feed.ensures ∙ ap feed_place (tail_is from text)) (omega (arith, ap length (tail_is from text))) (c.line_length.ensures ∙ ap (λ (l : List ℕ). line_length l feed) (tail_is from text));
+      line = λ h. ended_line text from h (found.0 ∙ ap feed_place (tail_is from text)) (omega (arith, found.1, ap length (tail_is from text))) (c.line_length.ensures ∙ ap (λ (l : List ℕ). line_length l feed) (tail_is from text));
       past = λ h. absurd (omega arith);
     }

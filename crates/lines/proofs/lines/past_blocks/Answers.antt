@@ -1,34 +1,22 @@
--- No 10 is in the blocks passed: one more is passed only where none is in its 16 bytes, all of which are in the text.
--- the size of a block, as its two ends say
-use mathlib.Core.Path.{◌≡◌, sym, subst, ◌∙◌}
-use mathlib.Core.Bool.{true}
-use Prim.Native.Nat.{ℕ, ◌+◌, ◌-◌}
-use native.Mathlib.Omega.{arith}
-use lib.ListN.{take, drop, length-drop}
-use lib.Seq.{length-take-le}
+-- The blocks that have no 10 are counted, up to the first that has one.
+use mathlib.Core.Path.{sym, subst, ◌∙◌}
+use borrow.Author.Tests.{tests}
+use Rattle.std.proofs.Common.{rules, ℕ, ◌*◌, ◌/◌, length, arith}
+use Rattle.std.proofs.lemmas.Iterator.{YieldsList-from_slice}
+use Rattle.std.proofs.lemmas.Iterator.Consumers.{count_from_yields_List}
+use Rattle.std.proofs.lemmas.Iterator.Search.{YieldsList-from_take_while}
+use Rattle.std.proofs.lemmas.List.Folds.{length-prefix_len}
+use Rattle.std.specs.Simd.{first_chunks}
 use Rattle.ascii.specs.Lists.{every}
-use Rattle.lines.specs.Lines.{is_no_feed}
-use Rattle.lines.proofs.LineLaws.{feed_past}
+use Rattle.lines.specs.Lines.{is_no_feed, NoFeedBefore}
+use Rattle.lines.proofs.LineLaws.{blocks_passed}
 use Rattle.lines.proofs.lines.past_blocks.Goals as goal
 
-all_of : (i : ℕ) → i + 16 - i ≡ 16
-all_of i = omega arith
-
-pub has_no_feed-requires : goal.has_no_feed-requires
-has_no_feed-requires c =
-    let text = c.args.text.now in
-    let i = c.loop-i.i in
-    length-take-le (i + 16 - i) (drop i text) (omega (arith, length-drop i text)) ∙ all_of i
-
-pub returns-then-not-has_no_feed : goal.returns-then-not-has_no_feed
-returns-then-not-has_no_feed c = c.loop-i.invariant
-
-pub loop-i-preserved : goal.loop-i-preserved
-loop-i-preserved c =
-    let text = c.args.text.now in
-    let l = c.loop-i in
-    let none : every is_no_feed (take (l.i + 16 - l.i) (drop l.i text)) ≡ true = sym c.has_no_feed.ensures ∙ c.if-not-has_no_feed.false in
-    feed_past text l.i 16 (omega arith) (subst (λ (n : ℕ). every is_no_feed (take n (drop l.i text)) ≡ true) (all_of l.i) none) l.invariant
-
 pub returns : goal.returns
-returns c = c.loop-i.invariant
+returns c =
+    let text = c.args.text.now in
+    let blocks = first_chunks 16 (length text / 16) text in
+    let counted =
+    count_from_yields_List c.take_while.result _ c.count-passed.ensures.ran (YieldsList-from_take_while _ (every is_no_feed) (YieldsList-from_slice blocks cc) c.take_while.ensures.closure c.take_while.ensures.done (λ x b q k. search (rules, tests)))
+    ∙ length-prefix_len (every is_no_feed) blocks in
+    subst (λ (n : ℕ). NoFeedBefore text (n * 16)) (sym counted) (blocks_passed (length text / 16) text (omega arith))

@@ -1,54 +1,36 @@
--- Where none waits nothing is done; else the row is put in.
-use mathlib.Core.Path.{refl, sym, subst}
+-- The row is put in.
+use mathlib.Core.Path.{sym, ◌∙◌, subst}
 use mathlib.Core.List.{List}
 use Prim.Native.Nat.{ℕ}
 use lib.ListN.{set, length-set}
-use Rattle.building.specs.Holds.{Records, records_of}
+use Rattle.std.specs.Prelude.{Option}
+use Rattle.building.specs.Holds.{Records, SameLengths, records_now}
+use Rattle.building.proofs.ChainsStored.{stored_in}
 use Rattle.mmcif.specs.declared.stages.Waiting.{Waiting}
 use Rattle.mmcif.specs.Stages.{chain_in, PutBy}
 use Rattle.mmcif.proofs.stages.put_waiting.Goals as goal
 
-pub returns-in-Nothing : goal.returns-in-Nothing
-returns-in-Nothing c =
-    let a = c.args in
-    λ chains.
-    let entry : List ℕ → Records
-    = λ l. records_of l a.residue_keys.now a.residue_names.now a.residue_marks.now a.atom_keys.now a.atom_names.now a.elements.now a.positions.now a.occupancies.now in
-    record {
-      lengths = record {
-        chains = length-set chains a.found (chain_in a.stage.waiting);
-        residue_keys = refl;
-        residue_names = refl;
-        residue_marks = refl;
-        atom_keys = refl;
-        atom_names = refl;
-        elements = refl;
-        positions = refl;
-        occupancies = refl;
-      };
-      puts = subst (λ (w : Waiting). PutBy w a.room a.found a.stage a.stage.standing (entry chains) (entry (set chains a.found (chain_in a.stage.waiting)))) (sym c.in-Nothing.is) refl;
-    }
+-- a chain's name stored makes the list no longer
+stored_lengths : (r after : Records) (place name : ℕ) → SameLengths r after → SameLengths r (stored_in after place name)
+stored_lengths r after place name e = record {
+  chains = length-set after.chains place name ∙ e.chains;
+  residue_keys = e.residue_keys;
+  residue_names = e.residue_names;
+  residue_marks = e.residue_marks;
+  atom_keys = e.atom_keys;
+  atom_names = e.atom_names;
+  elements = e.elements;
+  positions = e.positions;
+  occupancies = e.occupancies;
+}
 
-pub returns-in-Row : goal.returns-in-Row
-returns-in-Row c =
+pub returns-clause-puts : goal.returns-clause-puts
+returns-clause-puts c =
     let a = c.args in
-    let l = c.keep_site.new in
     λ chains.
-    let entry : Records
-    = records_of chains a.residue_keys.now a.residue_names.now a.residue_marks.now a.atom_keys.now a.atom_names.now a.elements.now a.positions.now a.occupancies.now in
-    let after : ℕ → Records
-    = λ name. records_of (set chains a.found name) l.residue_keys l.residue_names l.residue_marks l.atom_keys l.atom_names l.elements l.positions l.occupancies in
+    let entry : Records = records_now chains a.residues.now a.atoms.now in
+    let after : List ℕ → Records = λ l. records_now l c.keep_site.new.residues c.keep_site.new.atoms in
     record {
-      lengths = record {
-        chains = length-set chains a.found (chain_in a.stage.waiting);
-        residue_keys = c.keep_site.auto.residue_keys;
-        residue_names = c.keep_site.auto.residue_names;
-        residue_marks = c.keep_site.auto.residue_marks;
-        atom_keys = c.keep_site.auto.atom_keys;
-        atom_names = c.keep_site.auto.atom_names;
-        elements = c.keep_site.auto.elements;
-        positions = c.keep_site.auto.positions;
-        occupancies = c.keep_site.auto.occupancies;
-      };
-      puts = subst (λ (w : Waiting). PutBy w a.room a.found a.stage c.keep_site.result entry (after (chain_in w))) (sym c.in-Row.is) (c.keep_site.ensures chains);
+      lengths = stored_lengths entry (after chains) a.found (chain_in a.stage.waiting) (c.keep_site.ensures.lengths chains);
+      puts = subst (λ (w : Option Waiting). PutBy w a.room a.found a.stage c.keep_site.result entry (after (set chains a.found (chain_in w)))) (sym c.in-Some.is) (c.keep_site.ensures.keeps chains);
     }

@@ -1,11 +1,12 @@
+use mathlib.Core.Path.{◌≡◌}
 use Prim.Native.Nat.{◌-◌}
 use lib.ListN.{length}
-use Rattle.mmcif.specs.Stages.{stage_at}
+use Rattle.std.specs.Prelude.{None}
 use Rattle.mmcif.proofs.StageLaws.{OnTheWay}
 use Rattle.mmcif.proofs.stages.to_next_row.Given as goal
 
-abbrev pub invariant-loop-at : goal.invariant-loop-at
-invariant-loop-at l = OnTheWay l.text l.settings (stage_at l.initial.at l.initial.number l.initial.heads l.initial.standing) (stage_at l.at l.number l.heads l.standing)
+abbrev pub invariant-loop-now : goal.invariant-loop-now
+invariant-loop-now l = OnTheWay l.text l.settings l.initial.now l.now × (l.now.waiting ≡ None)
 
-abbrev pub decreases-loop-at : goal.decreases-loop-at
-decreases-loop-at l = length l.text - l.at
+abbrev pub decreases-loop-now : goal.decreases-loop-now
+decreases-loop-now l = length l.text - l.now.at

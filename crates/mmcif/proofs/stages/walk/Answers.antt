@@ -5,10 +5,12 @@ use mathlib.Core.List.{List, []}
 use Prim.Native.Nat.{ℕ, suc, ◌^◌, ◌<◌}
 use native.Mathlib.Omega.{arith}
 use lib.ListN.{length}
+use Rattle.std.proofs.Common.{rules}
+use Rattle.std.specs.Prelude.{Option}
 use Rattle.rows.specs.declared.settings.Settings.{Settings}
 use Rattle.acts.specs.declared.doing.Standing.{Standing}
 use Rattle.mmcif.specs.declared.stages.Stage.{Stage}
-use Rattle.mmcif.specs.Stages.{chain_in, is_waiting, onward_to, is_own, stage_at, GoesOnTo}
+use Rattle.mmcif.specs.Stages.{run_of, onward_to, is_own, stage_at, GoesOnTo}
 use Rattle.mmcif.proofs.StageLaws.{between}
 use Rattle.mmcif.proofs.RunLaws.{none_yet, one_row, less, run_taken}
 use Rattle.mmcif.proofs.stages.walk.Goals as goal
@@ -19,23 +21,22 @@ goes : (text : List ℕ) (settings : Settings) (s : Stage) (kept : Standing) (at
 goes text settings s kept at to e = subst (λ (n : ℕ). GoesOnTo text settings (stage_at n s.number s.heads kept) to) e
 
 -- with a row of the chain
-own : (stage to : Stage) (name : ℕ) (runs more : Bool) → name ≡ chain_in stage.waiting → runs ≡ is_waiting stage.waiting → more ≡ is_own runs to.waiting name → more ≡ true
-    → is_own (is_waiting stage.waiting) to.waiting (chain_in stage.waiting) ≡ true
-own stage to name runs more named waits goes-on e = sym (goes-on ∙ (λ i. is_own (waits i) to.waiting (named i))) ∙ e
+own : (stage to : Stage) (run : Option ℕ) (more : Bool) → run ≡ run_of stage.waiting → more ≡ is_own run to.waiting → more ≡ true → is_own (run_of stage.waiting) to.waiting ≡ true
+own stage to run more is goes-on e = sym (goes-on ∙ (λ i. is_own (is i) to.waiting)) ∙ e
 
 pub loop-settings-init : goal.loop-settings-init
-loop-settings-init c = λ chains. none_yet c.args.text.now c.args.settings c.args.room c.args.place c.args.stage _
+loop-settings-init c = (search rules, search rules, λ chains. none_yet c.args.text.now c.args.settings c.args.room c.args.place c.args.stage _)
 
-pub returns-then-not-more : goal.returns-then-not-more
-returns-then-not-more c =
+pub returns-then-not-is_own-clause-walks : goal.returns-then-not-is_own-clause-walks
+returns-then-not-is_own-clause-walks c =
     let a = c.args in
     let small : suc (length a.text.now) < 2 ^ 64 = omega arith in
     let s = c.loop-settings.now in
     let kept = c.put_waiting-kept.result in
     let to = c.to_next_row-now.result in
     λ chains.
-    run_taken a.text.now a.settings a.room a.place a.stage _ small s _ (c.loop-settings.invariant chains) kept _ refl (c.put_waiting-kept.ensures chains) to
-    (goes a.text.now a.settings s kept _ to c.onward-at.ensures c.to_next_row-now.ensures)
+    run_taken a.text.now a.settings a.room a.place a.stage _ small s _ (c.loop-settings.invariant.2 chains) kept _ refl (c.put_waiting-kept.ensures.puts chains) to
+    (goes a.text.now a.settings s kept _ to c.onward.ensures c.to_next_row-now.ensures)
 
 pub loop-settings-smaller : goal.loop-settings-smaller
 loop-settings-smaller c =
@@ -44,9 +45,9 @@ loop-settings-smaller c =
     let s = c.loop-settings.now in
     let kept = c.put_waiting-kept.result in
     let to = c.to_next_row-now.result in
-    less a.text.now a.settings a.room a.place a.stage _ small s _ (c.loop-settings.invariant []) kept _ refl (c.put_waiting-kept.ensures []) to
-    (goes a.text.now a.settings s kept _ to c.onward-at.ensures c.to_next_row-now.ensures)
-    (own a.stage to _ _ _ c.chain_in-name.ensures c.waits-runs.ensures c.is_own-more.ensures c.if-not-more.false)
+    less a.text.now a.settings a.room a.place a.stage _ small s _ (c.loop-settings.invariant.2 []) kept _ refl (c.put_waiting-kept.ensures.puts []) to
+    (goes a.text.now a.settings s kept _ to c.onward.ensures c.to_next_row-now.ensures)
+    (own a.stage to _ _ c.run_of-run.ensures c.is_own.ensures c.if-not-is_own.false)
 
 pub loop-settings-preserved : goal.loop-settings-preserved
 loop-settings-preserved c =
@@ -54,8 +55,11 @@ loop-settings-preserved c =
     let small : suc (length a.text.now) < 2 ^ 64 = omega arith in
     let s = c.loop-settings.now in
     let kept = c.put_waiting-kept.result in
-    let to = c.to_next_row-now.result in
-    λ chains.
-    one_row a.text.now a.settings a.room a.place a.stage _ small s _ (c.loop-settings.invariant chains) kept _ refl (c.put_waiting-kept.ensures chains) to
-    (goes a.text.now a.settings s kept _ to c.onward-at.ensures c.to_next_row-now.ensures)
-    (own a.stage to _ _ _ c.chain_in-name.ensures c.waits-runs.ensures c.is_own-more.ensures c.if-not-more.false)
+    let to = c.to_next_row-now.result in (
+      search rules,
+      search rules,
+      λ chains.
+          one_row a.text.now a.settings a.room a.place a.stage _ small s _ (c.loop-settings.invariant.2 chains) kept _ refl (c.put_waiting-kept.ensures.puts chains) to
+          (goes a.text.now a.settings s kept _ to c.onward.ensures c.to_next_row-now.ensures)
+          (own a.stage to _ _ c.run_of-run.ensures c.is_own.ensures c.if-not-is_own.false),
+    )

@@ -9,5 +9,5 @@ overflow_add-result c = omega arith
 pub returns-then-is_polymer : goal.returns-then-is_polymer
 returns-then-is_polymer c = rw (sym c.is_polymer.ensures ∙ c.if-is_polymer.true) (omega (arith, c.chain_part.ensures))
 
-pub returns : goal.returns
-returns c = rw (sym c.is_polymer.ensures ∙ c.if-is_polymer.false)
+pub returns-else-is_polymer : goal.returns-else-is_polymer
+returns-else-is_polymer c = rw (sym c.is_polymer.ensures ∙ c.if-is_polymer.false)

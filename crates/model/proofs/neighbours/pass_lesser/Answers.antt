@@ -21,4 +21,4 @@ loop-i-preserved c =
 pub returns : goal.returns
 returns c =
     let a = c.args in
-    omega (arith, c.loop-i.invariant, passed_all a.key a.keys.now a.n c.loop-i.i (omega arith))
+    grind (arith, c.loop-i.invariant, c.loop-i.auto.i-end, c.loop-i-test.false, passed_all a.key a.keys.now a.n c.loop-i.i, passed_all a.key a.keys.now a.n a.from)

@@ -6,5 +6,5 @@ use Rattle.model.proofs.room.smallest.Goals as goal
 pub returns : goal.returns
 returns c =
     let a = c.args in
-    c.smaller-4.ensures
-    ∙ ap (min a.a) (c.smaller-3.ensures ∙ ap (min a.b) (c.smaller-2.ensures ∙ ap (min a.c) c.smaller.ensures))
+    c.min-4.ensures
+    ∙ ap (min a.a) (c.min-3.ensures ∙ ap (min a.b) (c.min-2.ensures ∙ ap (min a.c) c.min.ensures))

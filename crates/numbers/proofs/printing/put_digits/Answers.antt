@@ -6,21 +6,18 @@ use lib.ListN.{length-set}
 use Rattle.numbers.proofs.PrintingLaws.{digits_length, digits_none, digits_turn}
 use Rattle.numbers.proofs.printing.put_digits.Goals as goal
 
-pub loop-left-preserved : goal.loop-left-preserved
-loop-left-preserved c =
+pub loop-place-preserved : goal.loop-place-preserved
+loop-place-preserved c =
     let at = c.args.at in
-    let out = c.loop-left.out in
-    let rest = c.loop-left.rest in
-    let left = c.loop-left.left in (
-      omega arith,
-      (
-        length-set out (at + (left - 1)) (48 + rest % 10) ∙ c.loop-left.invariant.1.0,
-        digits_turn out at left (left - 1) rest (48 + rest % 10) (omega arith) refl ∙ c.loop-left.invariant.1.1,
-      ),
+    let l = c.loop-place in (
+      length-set l.out (at + (l.place - 1)) (48 + l.rest % 10) ∙ l.invariant.0,
+      digits_turn l.out at l.place (l.place - 1) l.rest (48 + l.rest % 10) (omega arith) refl ∙ l.invariant.1,
     )
 
 pub returns : goal.returns
-returns c = record {
-  bytes = sym (digits_none c.loop-left.out c.args.at c.loop-left.left c.loop-left.rest (omega arith)) ∙ c.loop-left.invariant.1.1;
-  place = ap (λ (k : ℕ). c.args.at + k) (sym (digits_length c.args.count c.args.n));
-}
+returns c =
+    let l = c.loop-place in
+    record {
+      bytes = sym (digits_none l.out c.args.at l.place l.rest (omega arith)) ∙ l.invariant.1;
+      place = ap (λ (k : ℕ). c.args.at + k) (sym (digits_length c.args.count c.args.n));
+    }

@@ -6,12 +6,13 @@ use Prim.Native.Nat.{ℕ}
 use lib.Dec.{eqb}
 use Rattle.ascii.specs.Bytes.{first}
 use Rattle.ascii.specs.Signs.{after_sign}
-use Rattle.numbers.specs.declared.reading.Number.{Number}
+use Rattle.std.specs.Prelude.{Result, Float}
+use Rattle.numbers.specs.declared.reading.NumberError.{NumberError}
 use Rattle.numbers.specs.Grammar.{unsigned, spelling_of}
 use Rattle.numbers.specs.Reading.{read_as, number_of}
 use Rattle.numbers.proofs.reading.read_number.Goals as goal
 
-spelled : (s : List ℕ) (b : ℕ) (rest : List ℕ) (r : Number) → b ≡ first s → rest ≡ after_sign s → r ≡ read_as (unsigned (eqb b 45) rest) → r ≡ number_of s
+spelled : (s : List ℕ) (b : ℕ) (rest : List ℕ) (r : Result Float NumberError) → b ≡ first s → rest ≡ after_sign s → r ≡ read_as (unsigned (eqb b 45) rest) → r ≡ number_of s
 unfolding number_of spelling_of
 spelled s b rest r B R e = e ∙ ap (λ (l : List ℕ). read_as (unsigned (eqb b 45) l)) R ∙ ap (λ (x : ℕ). read_as (unsigned (eqb x 45) (after_sign s))) B
 

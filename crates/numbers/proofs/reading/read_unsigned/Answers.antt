@@ -12,14 +12,8 @@ pub returns-then-is_word : goal.returns-then-is_word
 unfolding read_as
 returns-then-is_word c = sym (ap read_as (unsigned_word _ c.args.s.now (sym c.is_word.ensures ∙ c.if-is_word.true)))
 
-pub slice_bounds-read_after_whole-end : goal.slice_bounds-read_after_whole-end
-slice_bounds-read_after_whole-end c = let s = c.args.s.now in subst (λ (n : ℕ). n ≤ length s) (sym c.count_digits-n.ensures) (run_fits s)
-
-pub slice_bounds-read_after_whole-count-2 : goal.slice_bounds-read_after_whole-count-2
-slice_bounds-read_after_whole-count-2 c = let s = c.args.s.now in subst (λ (n : ℕ). n ≤ length s) (sym c.count_digits-n.ensures) (run_fits s)
-
-pub slice_bounds-read_after_whole-start-2 : goal.slice_bounds-read_after_whole-start-2
-slice_bounds-read_after_whole-start-2 c = let s = c.args.s.now in subst (λ (n : ℕ). n ≤ length s) (sym c.count_digits-n.ensures) (run_fits s)
+pub split_at-requires : goal.split_at-requires
+split_at-requires c = let s = c.args.s.now in subst (λ (n : ℕ). n ≤ length s) (sym c.count_digits.ensures) (run_fits s)
 
 pub returns : goal.returns
 returns c =
@@ -27,5 +21,5 @@ returns c =
     let s = c.args.s.now in
     c.read_after_whole.ensures
     ∙ ap read_as
-    (cut_digits (after_whole negative) s c.count_digits-n.result c.count_digits-n.ensures
+    (cut_digits (after_whole negative) s _ _ c.count_digits.result c.split_at.ensures.front c.split_at.ensures.back c.count_digits.ensures
     ∙ sym (unsigned_digits negative s (sym c.is_word.ensures ∙ c.if-is_word.false)))

@@ -3,7 +3,7 @@ use mathlib.Core.Path.{sym, ap, ◌∙◌}
 use Prim.Native.Nat.{ℕ}
 use native.Mathlib.Omega.{arith}
 use lib.Ieee.{binary64, round}
-use Rattle.numbers.specs.declared.reading.Number.TheVariants.{Value}
+use Rattle.std.specs.Prelude.{Ok}
 use Rattle.numbers.proofs.PowerLaws.{ten_fits, ten_positive}
 use Rattle.numbers.proofs.reading.valued.Goals as goal
 
@@ -16,7 +16,7 @@ quotient-requires c =
 pub returns-then-is_near : goal.returns-then-is_near
 returns-then-is_near c =
     let a = c.args in
-    ap Value (c.quotient.ensures ∙ ap (λ (p : ℕ). round binary64 a.negative a.n p) c.power_of_ten-p.ensures)
+    ap Ok (c.quotient.ensures ∙ ap (λ (p : ℕ). round binary64 a.negative a.n p) c.power_of_ten-p.ensures)
     ∙ sym (simp (sym c.is_near.ensures ∙ c.if-is_near.true))
 
 pub returns-else-is_near : goal.returns-else-is_near

@@ -1,5 +1,5 @@
 -- The two comparisons are with a million either way.
-use mathlib.Core.Path.{sym}
+use mathlib.Core.Path.{sym, ◌∙◌}
 use lib.Ieee.{of_bits, neg}
 use Rattle.numbers.proofs.PrintableLaws.{printable_below, printable_above}
 use Rattle.numbers.proofs.rounding.is_printable.Goals as goal
@@ -8,6 +8,6 @@ pub returns-then-x : goal.returns-then-x
 unfolding of_bits neg
 returns-then-x c = printable_below c.args.x c.if-x.true
 
-pub returns : goal.returns
+pub returns-else-x : goal.returns-else-x
 unfolding of_bits neg
-returns c = sym (printable_above c.args.x c.if-x.false)
+returns-else-x c = c.if-x.false ∙ sym (printable_above c.args.x c.if-x.false)

@@ -1,25 +1,18 @@
 -- Each turn reads one digit more; of at most 15 the number still fits. What is no digit ends the walk, and so does the end.
+use mathlib.Core.Path.{◌≡◌, refl, sym, ◌∙◌, subst}
+use Prim.Native.Nat.{ℕ}
 use native.Mathlib.Omega.{arith}
+use lib.ListN.{length}
 use Rattle.ascii.proofs.DigitLaws.{run_end, run_stop}
 use Rattle.numbers.proofs.PowerLaws.{ten_fits}
-use Rattle.numbers.proofs.WalkLaws.{walk_begins, walk_on, walk_ends, below_digits, above_digits}
+use Rattle.numbers.proofs.WalkLaws.{Walking, walk_on, walk_ends}
 use Rattle.numbers.proofs.walking.walk_digits.Goals as goal
 
-pub loop-i-init : goal.loop-i-init
-loop-i-init c = walk_begins c.args.s.now c.args.from c.args.n c.requires.0 c.requires.1.1
-
-pub returns-then-b-lt48 : goal.returns-then-b-lt48
-returns-then-b-lt48 c =
+pub returns-then-not-is_ascii_digit : goal.returns-then-not-is_ascii_digit
+returns-then-not-is_ascii_digit c =
     let a = c.args in
     let l = c.loop-i in
-    let ends = walk_ends a.s.now a.from a.n l.number l.i l.invariant (run_stop a.s.now l.i c.loop-i-test.true (below_digits _ c.if-b-lt48.true)) in
-    record { number_value = ends.0; end_value = ends.1.0; number_bound = ends.1.1 }
-
-pub returns-then-b-gt57 : goal.returns-then-b-gt57
-returns-then-b-gt57 c =
-    let a = c.args in
-    let l = c.loop-i in
-    let ends = walk_ends a.s.now a.from a.n l.number l.i l.invariant (run_stop a.s.now l.i c.loop-i-test.true (above_digits _ c.if-b-gt57.true)) in
+    let ends = walk_ends a.s.now a.from a.n l.number l.i l.invariant (run_stop a.s.now l.i c.loop-i-test.true (sym c.is_ascii_digit.ensures.value ∙ c.if-not-is_ascii_digit.true)) in
     record { number_value = ends.0; end_value = ends.1.0; number_bound = ends.1.1 }
 
 pub overflow_mul-number : goal.overflow_mul-number
@@ -36,11 +29,13 @@ pub loop-i-preserved : goal.loop-i-preserved
 loop-i-preserved c =
     let a = c.args in
     let l = c.loop-i in
-    walk_on a.s.now a.from a.n l.number l.i l.invariant c.loop-i-test.true c.if-b-lt48.false c.if-b-gt57.false
+    walk_on a.s.now a.from a.n l.number l.i l.invariant c.loop-i-test.true (sym c.is_ascii_digit.ensures.value ∙ c.if-not-is_ascii_digit.false)
 
 pub returns : goal.returns
 returns c =
     let a = c.args in
     let l = c.loop-i in
-    let ends = walk_ends a.s.now a.from a.n l.number l.i l.invariant (run_end a.s.now l.i (omega arith)) in
+    let at_end : l.i ≡ length a.s.now = omega arith in
+    let walked = subst (λ (i : ℕ). Walking a.s.now a.from a.n l.number i) at_end l.invariant in
+    let ends = walk_ends a.s.now a.from a.n l.number (length a.s.now) walked (run_end a.s.now (length a.s.now) refl) in
     record { number_value = ends.0; end_value = ends.1.0; number_bound = ends.1.1 }

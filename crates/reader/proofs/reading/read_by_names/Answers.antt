@@ -2,27 +2,23 @@
 use mathlib.Core.Path.{refl, ap, ◌∙◌}
 use mathlib.Core.List.{List}
 use Prim.Native.Nat.{ℕ}
+use lib.ListN.{length}
 use Rattle.field_slices.specs.Clearing.{cleared}
-use Rattle.model.specs.Lent.{Lent, lent_of}
+use Rattle.model.specs.Lent.{Lent}
+use Rattle.model.specs.LentNow.{lent_now}
 use Rattle.readings.proofs.ReadWhole.{read_whole}
 use Rattle.mmcif.specs.Acts.{acts_of}
 use Rattle.reader.proofs.RowsAreSound.{acts_are_sound}
 use Rattle.reader.proofs.reading.read_by_names.Goals as goal
 
-pub returns : goal.returns
-returns c =
+pub returns-clause-reads : goal.returns-clause-reads
+returns-clause-reads c =
     let l = c.read_lines-standing in
-    let h = c.halted_early-early in
-    let m = c.room_of-room in
     let k = c.close-answer in
-    let n = k.new in
     let a = c.args in
-    let names = c.read_lines-standing.new.chains in
-    let entry : Lent = lent_of a.chains.now a.residue_keys.now a.residue_names.now a.residue_codes.now a.residue_categories.now a.residue_positions.now
-    a.atom_keys.now a.atom_names.now a.elements.now a.positions.now a.occupancies.now in
-    let after : List ℕ → Lent = λ chains. lent_of chains n.residue_keys n.residue_names n.residue_codes n.residue_categories n.residue_positions
-    n.atom_keys n.atom_names n.elements n.positions n.occupancies in
-    let whole = read_whole a.text.now (acts_of a.settings a.text.now) (acts_are_sound a.settings a.text.now) entry _ _ m.result h.result l.result _
-    (m.ensures a.chains.now refl) h.ensures l.ensures refl refl (k.ensures names) in
-    let chains = c.clear_u64_from.ensures ∙ ap (λ (n : ℕ). cleared 0 n names) c.chains_left.ensures in
-    (whole.0, ap after chains ∙ whole.1)
+    let names = l.new.chains in
+    let entry : Lent = lent_now a.chains.now a.residues.now a.atoms.now in
+    let after : List ℕ → Lent = λ chains. lent_now chains k.new.residues k.new.atoms in
+    let whole = read_whole a.text.now (acts_of a.settings a.text.now) (acts_are_sound a.settings a.text.now) entry _ _ c.room_in-room.result c.halted_early-early.result l.result _
+    (c.room_in-room.ensures a.chains.now refl) c.halted_early-early.ensures l.ensures.passes (ap length l.ensures.same_residues.1) (ap length l.ensures.same_residues.2) (k.ensures.closes names) in
+    (whole.0, ap after (c.clear_from.ensures ∙ ap (λ (n : ℕ). cleared 0 n names) c.chains_left.ensures) ∙ whole.1)

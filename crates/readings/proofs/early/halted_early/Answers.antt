@@ -1,26 +1,24 @@
 -- The length is tested as the definition tests it, and then the first byte outside.
-use mathlib.Core.Path.{sym, ap, ◌∙◌}
-use mathlib.Core.Bool.{Bool, cond}
+use mathlib.Core.Path.{◌≡◌, sym, ap, ◌∙◌}
+use mathlib.Core.List.{List}
+use Prim.Native.Nat.{ℕ, ◌≤◌}
 use lib.ListN.{length}
 use borrow.Author.Tests.{lt-ltb, le-ltb}
 use Rattle.lines.specs.Domain.{outside_of}
-use Rattle.refusals.specs.Reasons.{at}
-use Rattle.refusals.specs.declared.reasons.Reason.TheVariants.{TextTooLong}
-use Rattle.acts.specs.declared.doing.Halt.TheVariants.{Refused}
 use Rattle.readings.specs.Closing.{halted_by, halted_early}
 use Rattle.readings.specs.Reading.{largest}
 use Rattle.readings.proofs.early.halted_early.Goals as goal
 
+by_domain : (text : List ℕ) → length text ≤ largest → halted_early text ≡ halted_by (outside_of text)
+unfolding halted_early
+by_domain text h = rw (le-ltb largest (length text) h)
+
 pub returns-then-text-gt-LARGEST : goal.returns-then-text-gt-LARGEST
 unfolding halted_early
-returns-then-text-gt-LARGEST c =
-    let text = c.args.text.now in
-    sym (ap (λ (b : Bool). cond b (Refused (at 0 TextTooLong)) (halted_by (outside_of text))) (lt-ltb largest (length text) c.if-text-gt-LARGEST.true))
+returns-then-text-gt-LARGEST c = rw (lt-ltb largest (length c.args.text.now) c.if-text-gt-LARGEST.true)
+
+pub returns-in-Some : goal.returns-in-Some
+returns-in-Some c = sym (by_domain c.args.text.now c.if-text-gt-LARGEST.false ∙ ap halted_by (sym c.first_outside.ensures ∙ c.in-Some.is))
 
 pub returns : goal.returns
-unfolding halted_early
-returns c =
-    let text = c.args.text.now in
-    c.halted_by.ensures
-    ∙ ap halted_by c.first_outside.ensures
-    ∙ sym (ap (λ (b : Bool). cond b (Refused (at 0 TextTooLong)) (halted_by (outside_of text))) (le-ltb largest (length text) c.if-text-gt-LARGEST.false))
+returns c = sym (by_domain c.args.text.now c.if-text-gt-LARGEST.false ∙ ap halted_by (sym c.first_outside.ensures ∙ c.in_default.is))

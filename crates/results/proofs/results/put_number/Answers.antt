@@ -1,16 +1,17 @@
--- Four stores one behind the other are the four bytes put at that place.
-use mathlib.Core.Path.{◌≡◌}
-use Prim.Native.Nat.{suc, ◌+◌, ◌/◌, ◌%◌}
+-- Four bytes copied to a place are put there.
+use mathlib.Core.Path.{refl, sym, ap, ◌∙◌}
+use Prim.Native.Nat.{◌+◌, ◌-◌}
 use native.Mathlib.Omega.{arith}
-use lib.ListN.{set}
+use lib.ListN.{take}
+use lib.Seq.{sets-eq}
+use Rattle.std.proofs.lemmas.Slice.{put_mid-paste}
+use Rattle.results.specs.Results.{little_endian}
 use Rattle.results.proofs.results.put_number.Goals as goal
 
 pub returns : goal.returns
 returns c =
     let r = c.args.res.now in
     let at = c.args.at in
-    let n = c.args.n in
-    let second : at + 1 ≡ suc at = omega arith in
-    let third : at + 2 ≡ suc (suc at) = omega arith in
-    let fourth : at + 3 ≡ suc (suc (suc at)) = omega arith in
-    λ i. set (set (set (set r at (n % 256)) (second i) (n / 256 % 256)) (third i) (n / 65536 % 256)) (fourth i) (n / 16777216 % 256)
+    let four = c.copy_from_slice.ensures.after ∙ ap (take 4) c.to_le_bytes-bytes.ensures in
+    put_mid-paste at (at + 4 - at) r c.copy_from_slice.new.self (little_endian c.args.n) 4 four (omega arith) refl
+    ∙ sym (sets-eq (little_endian c.args.n) r at c.requires)

@@ -1,13 +1,12 @@
 -- A plain name is written as it is; the text of any other, put into a buffer without a byte, ends as far on as it is long.
 use mathlib.Core.Path.{sym, ap, ◌∙◌}
-use native.Mathlib.Omega.{arith}
 use lib.ListN.{length}
 use Rattle.row_texts.proofs.FieldsAreShort.{name_short, counted, from_the_start}
 use Rattle.row_texts.proofs.lengths.name_length.Goals as goal
 
-pub returns-then-n-ne0 : goal.returns-then-n-ne0
-returns-then-n-ne0 c =
-    let plain = c.plain_length-n.ensures (omega arith) in
+pub returns-in-Some : goal.returns-in-Some
+returns-in-Some c =
+    let plain = c.in-Some.ensures in
     counted (plain.1 ∙ ap length (sym plain.0)) (name_short c.args.name)
 
 pub returns : goal.returns

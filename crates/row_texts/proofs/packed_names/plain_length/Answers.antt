@@ -15,9 +15,6 @@ less c = one_less c.loop-rest.rest c.after_first-rest.result c.loop-rest-test.tr
 pub loop-rest-init : goal.loop-rest-init
 loop-rest-init c = (omega arith, refl)
 
-pub returns-then-first_byte-le39 : goal.returns-then-first_byte-le39
-returns-then-first_byte-le39 c h = absurd (omega arith)
-
 pub overflow_add-n : goal.overflow_add-n
 overflow_add-n c = omega (arith, less c, unpacked_short 8 c.args.name)
 
@@ -30,4 +27,4 @@ loop-rest-preserved c =
     (omega (arith, less c), loop.invariant.1 ∙ plain_turn loop.rest c.after_first-rest.result c.loop-rest-test.true c.first_byte.ensures c.after_first-rest.ensures (omega arith))
 
 pub returns : goal.returns
-returns c = plain_last c.args.name c.loop-rest.n c.loop-rest-test.false c.loop-rest.invariant.0 c.loop-rest.invariant.1
+returns c = plain_last c.args.name c.loop-rest.n c.if-name-eq0.false c.loop-rest-test.false c.loop-rest.invariant.0 c.loop-rest.invariant.1

@@ -4,7 +4,7 @@ use Rattle.rows.proofs.fields.fields_by.Goals as goal
 
 pub returns : goal.returns
 returns c =
-    let split = c.split_mmcif_line-n in
+    let split = c.split_mmcif_line-count in
     let a = c.args in
     c.fields_in.ensures a.line.now
     (record {

@@ -9,9 +9,9 @@ use Rattle.rows.proofs.fields.fields_of.Goals as goal
 pub returns-then-line-le-SHORT : goal.returns-then-line-le-SHORT
 returns-then-line-le-SHORT c =
     let a = c.args in
-    c.fields_of_short.ensures ∙ ap (fields_of a.columns) (sym (take_all longest a.line.now (omega (arith, c.if-line-le-SHORT.true))))
+    c.fields_within.ensures ∙ ap (fields_of a.columns) (sym (take_all longest a.line.now (omega (arith, c.if-line-le-SHORT.true))))
 
 pub returns-then-line-le-LONGEST : goal.returns-then-line-le-LONGEST
 returns-then-line-le-LONGEST c =
     let a = c.args in
-    c.fields_of_long.ensures ∙ ap (fields_of a.columns) (sym (take_all longest a.line.now c.if-line-le-LONGEST.true))
+    c.fields_within-then-line-le-LONGEST.ensures ∙ ap (fields_of a.columns) (sym (take_all longest a.line.now c.if-line-le-LONGEST.true))

@@ -4,4 +4,4 @@ use Rattle.service.proofs.OwnRoom.{own_room_lem, own_served}
 use Rattle.service.proofs.own.serve_own.Goals as goal
 
 pub returns : goal.returns
-returns c = own_served _ _ (own_room_lem _ refl refl refl refl refl refl refl refl refl refl refl) c.serve.ensures
+returns c = own_served _ _ (own_room_lem _ refl refl refl refl refl refl refl refl refl refl refl) c.serve.ensures.serves

@@ -25,8 +25,8 @@ returns-then-byte_at-eq45 c =
     c.negative.ensures ∙ ap negative_of (number token _ _ c.number_from-n.ensures c.after_sign-digits.ensures)
     ∙ with_minus token (tested _ _ _ _ c.all_digits.ensures c.after_sign-digits.ensures c.if-not-all_digits.false) (sym c.byte_at.ensures ∙ c.if-byte_at-eq45.true)
 
-pub returns : goal.returns
-returns c =
+pub returns-else-byte_at-eq45 : goal.returns-else-byte_at-eq45
+returns-else-byte_at-eq45 c =
     let token = c.args.token.now in
     c.positive.ensures ∙ ap positive_of (number token _ _ c.number_from-n.ensures c.after_sign-digits.ensures)
     ∙ without_minus token (tested _ _ _ _ c.all_digits.ensures c.after_sign-digits.ensures c.if-not-all_digits.false) (λ e. c.if-byte_at-eq45.false (c.byte_at.ensures ∙ e))

@@ -1,22 +1,12 @@
--- While b was not met, it stands in s exactly where it stands in what is left.
-use mathlib.Core.Path.{sym, ◌∙◌}
-use Rattle.tokens.proofs.QuoteLaws.{has_here, has_more, has_end}
+-- `any` answers whether some byte is b, which is what `has` asks.
+use borrow.Author.Tests.{tests}
+use Rattle.std.proofs.Common.{rules, ◌∙◌, nat_eq}
+use Rattle.std.proofs.lemmas.Iterator.{YieldsList-from_slice}
+use Rattle.std.proofs.lemmas.Iterator.Search.{any_from_yields_List}
+use Rattle.tokens.proofs.QuoteLaws.{any_is_has}
 use Rattle.tokens.proofs.quote.has_byte.Goals as goal
-
-pub returns-then-s-i : goal.returns-then-s-i
-returns-then-s-i c =
-    let a = c.args in
-    let l = c.loop-i in
-    sym (l.invariant ∙ has_here a.b a.s.now l.i c.loop-i-test.true c.if-s-i.true)
-
-pub loop-i-preserved : goal.loop-i-preserved
-loop-i-preserved c =
-    let a = c.args in
-    let l = c.loop-i in
-    l.invariant ∙ has_more a.b a.s.now l.i c.loop-i-test.true c.if-s-i.false
 
 pub returns : goal.returns
 returns c =
     let a = c.args in
-    let l = c.loop-i in
-    sym (l.invariant ∙ has_end a.b a.s.now l.i c.loop-i-test.false)
+    any_from_yields_List (λ x. nat_eq x a.b) _ _ _ c.any.ensures.ran (YieldsList-from_slice a.s.now cc) (λ x r q k. search (rules, tests)) ∙ any_is_has a.b a.s.now

@@ -1,49 +1,68 @@
--- The walk has copied what it has passed; each byte keeps that, and the text's end ends the last token.
-use mathlib.Core.Path.{refl, ap, ◌∙◌}
+-- What is copied is kept by each byte's act, and the text's end ends the last token.
+use mathlib.Core.Path.{refl, sym, ap, ◌∙◌}
 use mathlib.Core.List.{List}
 use Prim.Native.Nat.{ℕ}
 use native.Mathlib.Omega.{arith}
-use lib.ListN.{get_or}
 use lib.Seq.{sets}
-use Rattle.tokens.specs.declared.split.Split.{Split}
 use Rattle.tokens.specs.Split.{places_from}
-use Rattle.tokens.specs.Splitting.{act_in}
 use Rattle.tokens.specs.Tokens.{tokens_from}
-use Rattle.tokens.proofs.SplitLaws.{byte_copied, all_copied, first_copied, first_place_lem, byte_ordered}
+use Rattle.tokens.proofs.SplitLaws.{copies, turns, passes, ends, last_ends, all_copied, first_copied, first_place_lem}
 use Rattle.tokens.proofs.split.split_text.Goals as goal
+use Rattle.tokens.proofs.split.split_text.Goals.{in-Add, in-End, in-End-2, in-Turn}
 
-pub loop-w-init : goal.loop-w-init
-loop-w-init c = (omega arith, record { counted = omega arith; begins = omega arith; within = omega arith }, rw c.store_place.ensures (first_copied c.args.text.now c.args.cell.now c.args.places.now))
+pub loop-b-init : goal.loop-b-init
+loop-b-init c = (
+  record { counted = omega arith; begins = omega arith; within = omega arith },
+  rw c.store.ensures (first_copied c.args.text.now c.args.cell.now c.args.places.now),
+)
 
-pub take_byte-w-requires : goal.take_byte-w-requires
-take_byte-w-requires c = (c.loop-w-test.true, c.loop-w.invariant.1)
+pub loop-b-preserved : goal.loop-b-preserved
+loop-b-preserved c =
+    let o = c.loop-b.invariant.0 in
+    let g = c.loop-b.invariant.1 in
+    let h = c.loop-b-test.true in
+    let met = sym c.act_of.ensures in
+    elim c.match-act_of.branch [
+      | in-Add w ↦ rw (w.cell-is, w.places-is, w.quote-is, w.begin-is, w.len-is, w.count-is, w.store-in-Add.ensures) (
+        record { counted = o.counted; begins = omega (arith, o.begins); within = omega (arith, o.within) },
+        copies g h (met ∙ w.in-Add.is),
+      )
+      | in-End w ↦ rw (w.cell-is, w.places-is, w.quote-is, w.begin-is, w.len-is, w.count-is) (
+        record { counted = o.counted; begins = o.begins; within = omega (arith, o.within) },
+        passes g h (met ∙ w.in-End.is) w.if-len-begin.true,
+      )
+      | in-End-2 w ↦ rw (w.cell-is, w.places-is, w.quote-is, w.begin-is, w.len-is, w.count-is, w.store-in-End-2.ensures) (
+        record { counted = omega (arith, o.counted, o.begins, w.if-len-begin.false); begins = omega arith; within = omega (arith, o.within) },
+        ends g h (met ∙ w.in-End.is) w.if-len-begin.false,
+      )
+      | in-Turn w ↦ rw (w.cell-is, w.places-is, w.quote-is, w.begin-is, w.len-is, w.count-is) (
+        record { counted = o.counted; begins = o.begins; within = omega (arith, o.within) },
+        turns g h (met ∙ w.in-Turn.is),
+      )
+    ]
 
-pub loop-w-smaller : goal.loop-w-smaller
-loop-w-smaller c =
-    let l = c.loop-w in
-    let e = c.take_byte-w.ensures in
-    omega (arith, c.loop-w-test.true, ap (λ (w : Split). w.at) e.value, (byte_ordered l.w l.invariant.1 (act_in l.w (get_or c.args.text.now l.w.at 0))).1)
-
-pub loop-w-preserved : goal.loop-w-preserved
-loop-w-preserved c =
-    let l = c.loop-w in
-    let t = c.take_byte-w.ensures in
-    let less = c.loop-w-test.true in
-    let o = byte_ordered l.w l.invariant.1 (act_in l.w (get_or c.args.text.now l.w.at 0)) in
-    rw (t.value, t.cell_after, t.places_after) (omega (arith, less, o.1), o.0, byte_copied _ _ _ l.w l.cell l.places l.invariant.2 less (act_in l.w (get_or c.args.text.now l.w.at 0)) refl)
-
-pub end_token-last-requires : goal.end_token-last-requires
-end_token-last-requires c = c.loop-w.invariant.1
-
-pub returns : goal.returns
-returns c =
-    let l = c.loop-w in
-    let e = c.end_token-last.ensures in
+pub returns-then-begin-len : goal.returns-then-begin-len
+returns-then-begin-len c =
     let text = c.args.text.now in
-    let places = c.args.places.now in
-    let all = all_copied text _ _ l.w l.cell l.places l.invariant.2 c.loop-w-test.false in
+    let all = all_copied (last_ends c.loop-b.invariant.1 c.loop-b-test.false (λ e. omega arith)) c.loop-b-test.false refl in
     record {
-      value = ap (λ (w : Split). w.count) e.0 ∙ all.0;
+      value = all.0;
       cell_after = all.1;
-      places_after = e.1 ∙ all.2 ∙ ap (λ (p : List ℕ). sets p 0 (places_from 0 (tokens_from text))) c.store_place.ensures ∙ first_place_lem places (tokens_from text);
+      places_after =
+          c.store-then-begin-len.ensures
+          ∙ all.2
+          ∙ ap (λ (p : List ℕ). sets p 0 (places_from 0 (tokens_from text))) c.store.ensures
+          ∙ first_place_lem c.args.places.now (tokens_from text);
+    }
+
+pub returns-else-begin-len : goal.returns-else-begin-len
+returns-else-begin-len c =
+    let text = c.args.text.now in
+    let l = c.loop-b in
+    let all = all_copied l.invariant.1 c.loop-b-test.false (omega (arith, l.invariant.0.begins)) in
+    record {
+      value = all.0;
+      cell_after = all.1;
+      places_after =
+          all.2 ∙ ap (λ (p : List ℕ). sets p 0 (places_from 0 (tokens_from text))) c.store.ensures ∙ first_place_lem c.args.places.now (tokens_from text);
     }

@@ -1,22 +1,31 @@
--- The walk stands where it looks for the k-th token and the cell is as it was; each step keeps that, and when the walk is over the token is found.
+-- Before each byte the k-th token is still ahead; a byte's act keeps that or finds it, and the text's end ends the last token.
+use mathlib.Core.Path.{sym, ◌∙◌}
 use native.Mathlib.Omega.{arith}
-use Rattle.tokens.proofs.WalkLaws.{stands_first}
+use Rattle.tokens.proofs.WalkLaws.{adds, turns, passes, ends, finds, is_last, is_none, goes_first}
 use Rattle.tokens.proofs.tokenize.token_from.Goals as goal
+use Rattle.tokens.proofs.tokenize.token_from.Goals.{in-Add, in-End, in-End-3, in-Turn}
 
-pub loop-w-init : goal.loop-w-init
-loop-w-init c = rw c.going-w.ensures (omega arith, stands_first _ _ _)
+pub loop-b-init : goal.loop-b-init
+loop-b-init c = (omega arith, goes_first _ _ _)
 
-pub step-w-requires : goal.step-w-requires
-step-w-requires c = (c.loop-w-test.true, c.loop-w.invariant.0)
+pub returns-in-End-2 : goal.returns-in-End-2
+returns-in-End-2 c = finds c.loop-b.invariant.1 c.loop-b-test.true (sym c.act_of.ensures ∙ c.in-End.is) c.if-len-eq0.false c.if-left-eq0.true
 
-pub loop-w-smaller : goal.loop-w-smaller
-loop-w-smaller c = c.step-w.ensures.fewer
+pub loop-b-preserved : goal.loop-b-preserved
+loop-b-preserved c =
+    let l = c.loop-b in
+    let g = l.invariant.1 in
+    let h = c.loop-b-test.true in
+    let met = sym c.act_of.ensures in
+    elim c.match-act_of.branch [
+      | in-Add w ↦ rw (w.cell-is, w.quote-is, w.left-is, w.len-is) (omega (arith, l.invariant.0), rw w.put.ensures (adds g h (met ∙ w.in-Add.is)))
+      | in-End w ↦ rw (w.cell-is, w.quote-is, w.left-is, w.len-is) (omega (arith, l.invariant.0), passes g h (met ∙ w.in-End.is) w.if-len-eq0.true)
+      | in-End-3 w ↦ rw (w.cell-is, w.quote-is, w.left-is, w.len-is) (omega arith, ends g h (met ∙ w.in-End.is) w.if-len-eq0.false w.if-left-eq0.false)
+      | in-Turn w ↦ rw (w.cell-is, w.quote-is, w.left-is, w.len-is) (omega (arith, l.invariant.0), turns g h (met ∙ w.in-Turn.is))
+    ]
 
-pub loop-w-preserved : goal.loop-w-preserved
-loop-w-preserved c =
-    let l = c.loop-w in
-    let e = c.step-w.ensures in
-    (e.room, e.keeps _ _ (l.invariant.1.going c.loop-w-test.true))
+pub returns-then-left-eq0-2 : goal.returns-then-left-eq0-2
+returns-then-left-eq0-2 c = is_last c.loop-b.invariant.1 c.loop-b-test.false c.if-left-eq0-2.true
 
-pub returns : goal.returns
-returns c = let o = c.loop-w.invariant.1.over c.loop-w-test.false in (o.long, o.stored)
+pub returns-else-left-eq0-2 : goal.returns-else-left-eq0-2
+returns-else-left-eq0-2 c = is_none c.loop-b.invariant.1 c.loop-b-test.false c.if-left-eq0-2.false

@@ -1,29 +1,26 @@
--- Trimming what stands before i is trimming the line: a blank before i moves it back, any other byte or the start stops.
-use mathlib.Core.Path.{sym, ◌∙◌}
-use native.Mathlib.Nat.{le_refl}
-use native.Mathlib.Omega.{arith}
-use Rattle.tokens.proofs.TrimLaws.{end_back, end_here, end_all, end_none}
+-- The blanks at the end are counted, from the last byte back.
+use mathlib.Core.Path.{sym, subst, ◌≡◌, ◌∙◌}
+use borrow.Author.Tests.{tests}
+use Rattle.std.proofs.Common.{rules, arith, ℕ, ◌-◌, length, take, reverse}
+use Rattle.std.proofs.lemmas.Iterator.Adapters.{YieldsList-from_rev_slice}
+use Rattle.std.proofs.lemmas.Iterator.Consumers.{count_from_yields_List}
+use Rattle.std.proofs.lemmas.Iterator.Search.{YieldsList-from_take_while}
+use Rattle.std.proofs.lemmas.List.Folds.{length-prefix_len}
+use Rattle.std.specs.List.{prefix_len}
+use Rattle.tokens.specs.Kinds.{is_blank}
+use Rattle.tokens.specs.Trim.{trim_end}
+use Rattle.tokens.proofs.TrimLaws.{ends}
 use Rattle.tokens.proofs.trim.trim_end.Goals as goal
 
-pub loop-i-init : goal.loop-i-init
-loop-i-init c = (le_refl _, end_all _)
+counted : (c : goal.After-count) → c.count.result ≡ prefix_len is_blank (reverse c.args.line.now)
+counted c =
+    count_from_yields_List c.take_while.result _ c.count.ensures.ran (YieldsList-from_take_while _ is_blank (YieldsList-from_rev_slice c.args.line.now cc) c.take_while.ensures.closure c.take_while.ensures.done (λ x b q k. search (rules, tests)))
+    ∙ length-prefix_len is_blank (reverse c.args.line.now)
 
-pub returns-then-not-is_blank : goal.returns-then-not-is_blank
-returns-then-not-is_blank c =
-    let line = c.args.line.now in
-    let l = c.loop-i in
-    let some = c.loop-i-test.true in
-    (l.invariant.0, end_here line l.i some l.invariant.0 (sym c.is_blank.ensures ∙ c.if-not-is_blank.true) ∙ l.invariant.1)
-
-pub loop-i-preserved : goal.loop-i-preserved
-loop-i-preserved c =
-    let line = c.args.line.now in
-    let l = c.loop-i in
-    let some = c.loop-i-test.true in
-    (omega arith, end_back line l.i some l.invariant.0 (sym c.is_blank.ensures ∙ c.if-not-is_blank.false) ∙ l.invariant.1)
+pub overflow_sub-result : goal.overflow_sub-result
+overflow_sub-result c = omega (arith, counted c, (ends c.args.line.now).0)
 
 pub returns : goal.returns
 returns c =
     let line = c.args.line.now in
-    let l = c.loop-i in
-    (omega arith, end_none line l.i c.loop-i-test.false ∙ l.invariant.1)
+    (omega arith, subst (λ (n : ℕ). take (length line - n) line ≡ trim_end line) (sym (counted c)) (ends line).1)

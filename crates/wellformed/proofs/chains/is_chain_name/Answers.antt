@@ -1,19 +1,9 @@
 -- The name `.` is one number, and any other is tested as a name.
-use mathlib.Core.Path.{sym, ap, ◌∙◌}
-use mathlib.Core.Bool.{Bool, not, ◌&&◌, and-true, and-false}
-use borrow.Author.Tests.{eq-eqb, ne_eqb}
+use Rattle.std.proofs.Common.{arith}
+use Rattle.std.proofs.lemmas.Grind.{common_steps}
 use Rattle.names.specs.Packing.{packed_in}
-use Rattle.model.specs.WellFormed.{is_name}
 use Rattle.wellformed.proofs.chains.is_chain_name.Goals as goal
 
-pub returns-then-name-eq-POINT : goal.returns-then-name-eq-POINT
+pub returns-then-is_name : goal.returns-then-is_name
 unfolding packed_in
-returns-then-name-eq-POINT c =
-    let n = c.args.name in
-    sym (ap (λ (t : Bool). is_name n && not t) (eq-eqb n _ c.if-name-eq-POINT.true) ∙ and-false (is_name n))
-
-pub returns : goal.returns
-unfolding packed_in
-returns c =
-    let n = c.args.name in
-    c.is_name.ensures ∙ sym (ap (λ (t : Bool). is_name n && not t) (ne_eqb n _ c.if-name-eq-POINT.false) ∙ and-true (is_name n))
+returns-then-is_name c = grind (arith, common_steps)

@@ -9,6 +9,3 @@ use Rattle.wellformed.proofs.order.atoms_ascend.Given as goal
 
 abbrev pub invariant-loop-i : goal.invariant-loop-i
 invariant-loop-i l = (1 ≤ l.i) × (ascends (list_from (λ k. atom_place (entries l.keys k) (entries l.names k)) 0 l.n) ≡ ascends (rest (λ k. atom_place (entries l.keys k) (entries l.names k)) l.n (l.i - 1)))
-
-abbrev pub decreases-loop-i : goal.decreases-loop-i
-decreases-loop-i l = l.n - l.i

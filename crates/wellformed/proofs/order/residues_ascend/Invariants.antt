@@ -8,6 +8,3 @@ use Rattle.wellformed.proofs.order.residues_ascend.Given as goal
 
 abbrev pub invariant-loop-i : goal.invariant-loop-i
 invariant-loop-i l = (1 ≤ l.i) × (ascends (list_from (entries l.keys) 0 l.n) ≡ ascends (rest (entries l.keys) l.n (l.i - 1)))
-
-abbrev pub decreases-loop-i : goal.decreases-loop-i
-decreases-loop-i l = l.n - l.i

@@ -1,5 +1,4 @@
 use mathlib.Core.Path.{◌≡◌}
-use Prim.Native.Nat.{◌-◌}
 use Rattle.model.specs.Lent.{list_from}
 use Rattle.wellformed.specs.Slices.{standing_in}
 use Rattle.wellformed.specs.Walks.{stands_from}
@@ -8,6 +7,3 @@ use Rattle.wellformed.proofs.residues.are_positioned.Given as goal
 
 abbrev pub invariant-loop-i : goal.invariant-loop-i
 invariant-loop-i l = stands_from 0 (list_from (standing_in l.keys l.codes l.positions) 0 l.n) ≡ stands_from l.met (rest (standing_in l.keys l.codes l.positions) l.n l.i)
-
-abbrev pub decreases-loop-i : goal.decreases-loop-i
-decreases-loop-i l = l.n - l.i

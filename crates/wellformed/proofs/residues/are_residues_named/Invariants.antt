@@ -1,5 +1,4 @@
 use mathlib.Core.Path.{◌≡◌}
-use Prim.Native.Nat.{◌-◌}
 use Rattle.model.specs.Lent.{list_from}
 use Rattle.ascii.specs.Lists.{every}
 use Rattle.wellformed.specs.Slices.{entries, is_residue_named}
@@ -8,6 +7,3 @@ use Rattle.wellformed.proofs.residues.are_residues_named.Given as goal
 
 abbrev pub invariant-loop-i : goal.invariant-loop-i
 invariant-loop-i l = every (λ k. is_residue_named (entries l.keys k) (entries l.names k)) (list_from (λ k. k) 0 l.n) ≡ every (λ k. is_residue_named (entries l.keys k) (entries l.names k)) (rest (λ k. k) l.n l.i)
-
-abbrev pub decreases-loop-i : goal.decreases-loop-i
-decreases-loop-i l = l.n - l.i

@@ -1,15 +1,9 @@
-use mathlib.Core.Path.{◌≡◌}
-use Prim.Native.Nat.{◌-◌}
-use lib.ListN.{length}
-use Rattle.model.specs.Lent.{lent_of}
+use Rattle.model.specs.Lent.{lent_in}
 use Rattle.row_texts.specs.Emitted.{Emitted}
 use Rattle.writer.proofs.AtomRows.{RowsTold}
 use Rattle.writer.proofs.atoms.put_atom_rows.Given as goal
 
 abbrev pub invariant-loop-i : goal.invariant-loop-i
 invariant-loop-i l =
-    let slices = lent_of l.chains l.residue_keys l.residue_names l.residue_codes l.residue_categories l.residue_positions l.atom_keys l.atom_names l.elements l.positions l.occupancies in
-    RowsTold slices l.counts (λ t. Emitted l.initial.out l.at t l.place l.out) l.i l.walk × (length l.out ≡ length l.initial.out)
-
-abbrev pub decreases-loop-i : goal.decreases-loop-i
-decreases-loop-i l = l.counts.atoms - l.i
+    let slices = lent_in l.records in
+    RowsTold slices l.fn.counts (λ t. Emitted l.initial.out l.at t l.place l.out) l.i l.walk

@@ -1,28 +1,28 @@
--- One is among all exactly where one is among those that are left, as long as none was found.
-use mathlib.Core.Path.{sym, ap, ◌∙◌}
+-- `any` answers whether one of the codes at the indices is of a polymer.
+use mathlib.Core.Path.{◌≡◌, refl, ap, ◌∙◌}
+use mathlib.Core.Bool.{Bool, ◌||◌}
+use Prim.Native.Nat.{ℕ, zero, suc}
+use native.Mathlib.Numerals.{add-one}
+use native.Mathlib.Omega.{arith}
+use borrow.Author.Tests.{tests}
+use Rattle.std.proofs.Common.{rules}
+use Rattle.std.proofs.lemmas.Iterator.{YieldsList-from_range}
+use Rattle.std.proofs.lemmas.Iterator.Search.{any_from_yields_List}
+use Rattle.std.specs.List.{list_any, range_with_len}
+use Rattle.model.specs.Lent.{list_from}
 use Rattle.model.specs.Lists.{any}
 use Rattle.model.specs.Termini.{is_polymer}
 use Rattle.wellformed.specs.Slices.{entries}
-use Rattle.wellformed.proofs.FromLaws.{rest_all, any_on, any_found, any_end}
 use Rattle.writer.proofs.polymers.has_polymers.Goals as goal
 
-pub loop-i-init : goal.loop-i-init
-loop-i-init c = let a = c.args in ap (any is_polymer) (rest_all (entries a.codes.now) a.n)
-
-pub returns-then-is_polymer : goal.returns-then-is_polymer
-returns-then-is_polymer c =
-    let a = c.args in
-    let l = c.loop-i in
-    sym (l.invariant ∙ any_found is_polymer (entries a.codes.now) a.n l.i c.loop-i-test.true (sym (c.is_polymer.ensures ∙ ap is_polymer c.byte_at.ensures) ∙ c.if-is_polymer.true))
-
-pub loop-i-preserved : goal.loop-i-preserved
-loop-i-preserved c =
-    let a = c.args in
-    let l = c.loop-i in
-    l.invariant ∙ any_on is_polymer (entries a.codes.now) a.n l.i c.loop-i-test.true (sym (c.is_polymer.ensures ∙ ap is_polymer c.byte_at.ensures) ∙ c.if-is_polymer.false)
+any_over : (at : ℕ → ℕ) (i n : ℕ) → list_any (λ k. is_polymer (at k)) (range_with_len i n) ≡ any is_polymer (list_from at i n)
+unfolding list_from
+any_over at i zero = refl
+any_over at i (suc n) =
+    ap (λ (j : ℕ). is_polymer (at i) || list_any (λ k. is_polymer (at k)) (range_with_len j n)) (add-one i)
+    ∙ ap (λ (b : Bool). is_polymer (at i) || b) (any_over at (suc i) n)
 
 pub returns : goal.returns
 returns c =
-    let a = c.args in
-    let l = c.loop-i in
-    sym (l.invariant ∙ any_end is_polymer (entries a.codes.now) a.n l.i c.loop-i-test.false)
+    let at = entries c.args.codes.now in
+    any_from_yields_List (λ k. is_polymer (at k)) _ _ _ c.any.ensures.ran (YieldsList-from_range 0 c.args.n c.args.n refl (omega arith)) (λ x r q k. search (rules, tests)) ∙ any_over at 0 c.args.n

@@ -4,7 +4,7 @@ use mathlib.Core.Bool.{Bool}
 use Prim.Native.Nat.{ℕ, ◌+◌}
 use native.Mathlib.Omega.{arith}
 use lib.ListN.{take}
-use Rattle.model.specs.Lent.{Lent, lent_of, residue_in, atom_in}
+use Rattle.model.specs.Lent.{Lent, lent_in, residue_in, atom_in}
 use Rattle.model.specs.TakenOut.{atom_out}
 use Rattle.model.specs.declared.room.Room.{Room}
 use Rattle.model.specs.declared.taken_out.Atom.{Atom}
@@ -31,7 +31,7 @@ module _ (l : Lent) (counts : Room) (i : ℕ) (from : Walk) {atom : Atom} {next 
 pub loop-i-init : goal.loop-i-init
 loop-i-init c =
     let a = c.args in
-    let l = lent_of a.chains.now a.residue_keys.now a.residue_names.now a.residue_codes.now a.residue_categories.now a.residue_positions.now a.atom_keys.now a.atom_names.now a.elements.now a.positions.now a.occupancies.now in
+    let l = lent_in a.records in
     let e = c.begin_walk-walk.ensures in
     (subst (Bounded 0) (sym e) (bounded_first (residue_in l)), λ well. (left_all l a.counts, subst (Walked l a.counts.residues a.counts.atoms 0) (sym e) (walk_begins l a.counts well)))
 
@@ -40,34 +40,28 @@ walk_to-walk-requires c =
     let b = c.loop-i.invariant.0 in
     (omega (arith, b.entered, c.loop-i-test.true, c.requires.1), omega (arith, b.counted, c.loop-i-test.true, c.requires.1))
 
-pub is_unwritable-requires : goal.is_unwritable-requires
-is_unwritable-requires c = c.requires.0
-
 pub overflow_add-result : goal.overflow_add-result
 overflow_add-result c = omega (arith, c.loop-i-test.true, c.requires.1)
 
 pub returns-then-is_unwritable : goal.returns-then-is_unwritable
 returns-then-is_unwritable c =
     let a = c.args in
-    let l = lent_of a.chains.now a.residue_keys.now a.residue_names.now a.residue_codes.now a.residue_categories.now a.residue_positions.now a.atom_keys.now a.atom_names.now a.elements.now a.positions.now a.occupancies.now in
+    let l = lent_in a.records in
     let at = c.loop-i.i in
     let from = c.loop-i.walk in
     let answered = seen l a.counts at from c.atom_at-atom.ensures c.walk_to-walk.ensures c.is_unwritable.ensures in
     λ well. let inv = c.loop-i.invariant.1 well in sym (inv.0 ∙ left_found l a.counts well at c.loop-i-test.true from inv.1 _ answered c.if-is_unwritable.true)
 
-pub overflow_add-i : goal.overflow_add-i
-overflow_add-i c = omega (arith, c.loop-i-test.true, c.requires.1)
-
 pub loop-i-preserved : goal.loop-i-preserved
 loop-i-preserved c =
     let a = c.args in
-    let l = lent_of a.chains.now a.residue_keys.now a.residue_names.now a.residue_codes.now a.residue_categories.now a.residue_positions.now a.atom_keys.now a.atom_names.now a.elements.now a.positions.now a.occupancies.now in
+    let l = lent_in a.records in
     let at = c.loop-i.i in
     let from = c.loop-i.walk in
     let h = c.loop-i-test.true in
     let moved = on l a.counts at from c.atom_at-atom.ensures c.walk_to-walk.ensures in
     let answered = seen l a.counts at from c.atom_at-atom.ensures c.walk_to-walk.ensures c.is_unwritable.ensures in (
-      subst (Bounded (at + 1)) (sym moved) (bounded_next (residue_in l) at from (entries a.atom_keys.now at) c.loop-i.invariant.0),
+      subst (Bounded (at + 1)) (sym moved) (bounded_next (residue_in l) at from (entries a.records.atom_keys.now at) c.loop-i.invariant.0),
       λ well. let inv = c.loop-i.invariant.1 well in (
         inv.0 ∙ left_on l a.counts well at h from inv.1 _ answered c.if-is_unwritable.false,
         subst (Walked l a.counts.residues a.counts.atoms (at + 1)) (sym moved) (walk_goes l a.counts well at h from inv.1),
@@ -77,5 +71,5 @@ loop-i-preserved c =
 pub returns : goal.returns
 returns c =
     let a = c.args in
-    let l = lent_of a.chains.now a.residue_keys.now a.residue_names.now a.residue_codes.now a.residue_categories.now a.residue_positions.now a.atom_keys.now a.atom_names.now a.elements.now a.positions.now a.occupancies.now in
+    let l = lent_in a.records in
     λ well. sym ((c.loop-i.invariant.1 well).0 ∙ left_none l a.counts c.loop-i.i c.loop-i-test.false)

@@ -2,7 +2,7 @@
 use mathlib.Core.Path.{sym, subst}
 use mathlib.Core.List.{List, ◌++◌}
 use Prim.Native.Nat.{ℕ}
-use Rattle.model.specs.Lent.{lent_of, model_in}
+use Rattle.model.specs.Lent.{lent_in, model_in}
 use Rattle.row_texts.specs.Emitted.{Emitted}
 use Rattle.row_texts.proofs.EmittedLaws.{then}
 use Rattle.writer.specs.Text.{lines_text, opening, polymer_list, atom_loop, atom_rows, text_of}
@@ -14,7 +14,7 @@ pub returns : goal.returns
 unfolding text_of model_in
 returns c =
     let a = c.args in
-    let l = lent_of a.chains.now a.residue_keys.now a.residue_names.now a.residue_codes.now a.residue_categories.now a.residue_positions.now a.atom_keys.now a.atom_names.now a.elements.now a.positions.now a.occupancies.now in
+    let l = lent_in a.records in
     let model = model_in l a.counts in
     let rows = polymers_by_residues model model.residues in
     λ well. subst (λ (t : List ℕ). Emitted a.out.now 0 (lines_text opening ++ (polymer_list t ++ atom_loop (atom_rows model 1 model.atoms))) c.put_atom_loop.result c.put_atom_loop.new.out) (sym rows)

@@ -1,9 +1,0 @@
--- Each turn passes one entry.
-use Prim.Native.Nat.{◌-◌, ◌≤◌}
-use Rattle.samples.proofs.zeros.u64_are_zero.Given as goal
-
-abbrev pub invariant-loop-i : goal.invariant-loop-i
-invariant-loop-i l = l.from ≤ l.i
-
-abbrev pub decreases-loop-i : goal.decreases-loop-i
-decreases-loop-i l = 8 - l.i
