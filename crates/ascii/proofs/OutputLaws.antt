@@ -1,18 +1,16 @@
--- What becomes of a text and of the buffer, by whether the text fits. A text copied into the part where it goes is stored.
+-- What becomes of a text and of the buffer, by whether the text fits. A copy that is one byte longer is one store more, behind those that were made.
 use mathlib.Core.Path.{◌≡◌, refl, sym, ap, ◌∙◌}
 use mathlib.Core.List.{List, [], ◌∷◌, ◌++◌}
 use mathlib.Core.Bool.{Bool, true, false, not}
 use Prim.Native.Nat.{ℕ, suc, ◌+◌, ◌-◌, ◌≤◌, ◌<◌}
 use native.Mathlib.Nat.{add-zero, add-suc, suc-add, add_assoc, le_refl}
+use native.Mathlib.Numerals.{add-one}
 use native.Mathlib.Omega.{arith}
 use lib.Dec.{T, leb, leb→le, nleb→lt}
-use lib.ListN.{length, take, drop, set, length-append}
-use lib.Seq.{set_comm, sets, take-length}
+use lib.ListN.{length, get_or, take, set, length-append}
+use lib.Seq.{set_comm, sets, take-suc, take_all, length-take-le}
 use borrow.Author.Tests.{le-leb, lt-leb}
-use borrow.Rule.Slice.PartMut.{put_mid}
 use Rattle.std.specs.Prelude.{Ok, Err}
-use Rattle.std.proofs.lemmas.Slice.{put_mid-paste}
-use Rattle.std.proofs.lemmas.List.Edits.{sets-eq}
 use Rattle.ascii.specs.Output.{Stored, fits, no_room, placed_of, buffer_after}
 
 module _ (buffer : List ℕ) (at : ℕ) (text : List ℕ) where
@@ -69,19 +67,19 @@ stored_append {d} {e} {f} {at} {i} {j} {s} {t} p q = record {
   place = q.place ∙ ap (λ (k : ℕ). k + length t) p.place ∙ add_assoc at (length s) (length t) ∙ ap (λ (k : ℕ). at + k) (sym (length-append s t));
 }
 
--- a byte behind a text is one store more
+-- a byte behind a text is one store more, and so is a copy that is one byte longer
 pub store_more : (d : List ℕ) (at : ℕ) (s : List ℕ) (b : ℕ) → set (sets d at s) (at + length s) b ≡ sets d at (s ++ b ∷ [])
 store_more d at s b = sets_append d at s (b ∷ [])
 
--- ---- a text copied into the part of the buffer where it goes
-pub copied : (d : List ℕ) (at : ℕ) (text part : List ℕ) → at + length text ≤ length d → part ≡ text
-    → Stored d at text (put_mid at (at + length text - at) d part) (at + length text)
-copied d at text part h e =
-    let long : length text ≡ at + length text - at = omega arith in
-    record {
-      bytes = put_mid-paste at (at + length text - at) d part text (length text) e long refl ∙ ap (λ (t : List ℕ). take at d ++ t ++ drop (at + length text) d) (take-length text) ∙ sym (sets-eq text d at h);
-      place = refl;
-    }
+module _ (d : List ℕ) (at : ℕ) (text : List ℕ) (i : ℕ) where
+  pub copy_more : i < length text → set (sets d at (take i text)) (at + i) (get_or text i 0) ≡ sets d at (take (i + 1) text)
+  copy_more h =
+      ap (λ (n : ℕ). set (sets d at (take i text)) (at + n) (get_or text i 0)) (sym (length-take-le i text (omega arith)))
+      ∙ store_more d at (take i text) (get_or text i 0)
+      ∙ ap (sets d at) (sym (take-suc text i 0 h) ∙ ap (λ (n : ℕ). take n text) (sym (add-one i)))
+
+  pub copy_end : length text ≤ i → sets d at (take i text) ≡ sets d at text
+  copy_end h = ap (sets d at) (take_all i text h)
 
 -- ---- a run of bytes stored from the right
 

@@ -23,7 +23,9 @@ pub fn put_text(text: &[u8], out: &mut [u8], at: usize) -> Result<usize, NoRoom>
     if !fits_at(out.len(), at, n) {
         return Err(NoRoom { needed: n });
     }
-    let next = at + n;
-    out[at..next].copy_from_slice(text);
-    Ok(next)
+    // Byte by byte, since `copy_from_slice` becomes a call of C's `memmove`.
+    for i in 0..n {
+        out[at + i] = text[i];
+    }
+    Ok(at + n)
 }

@@ -1,4 +1,4 @@
--- A name is written in one of three ways. A turn of the loop that looks for a byte is one clause of `has`, and one of the loop that looks for plain bytes is one clause of `all_plain`.
+-- A name is written in one of three ways. The library's walk that looks for a byte is `has`, and the one that looks whether all are plain is `all_plain`.
 use mathlib.Core.Path.{◌≡◌, refl, ap}
 use mathlib.Core.List.{List, [], ◌∷◌, ◌++◌}
 use mathlib.Core.Bool.{Bool, true, false, ◌&&◌, ◌||◌}

@@ -1,4 +1,4 @@
--- A turn of each trimming walk is one clause of its definition.
+-- The library's walk over the blanks at each end is what its definition says.
 use mathlib.Core.Path.{◌≡◌, refl, sym, ap, ◌∙◌}
 use mathlib.Core.List.{List, [], ◌∷◌, ◌++◌}
 use mathlib.Core.Bool.{Bool, true, false, cond}

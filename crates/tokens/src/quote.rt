@@ -33,8 +33,9 @@ fn put_in_quotes(name: &[u8], q: u8, out: &mut [u8], at: usize) -> usize
     ensures { Stored out.old at (in_quotes q name.now) out.new result }
 {
     out[at] = q;
+    // The name fits, so it is put.
+    let _ = put_text(name, out, at + 1);
     let end = at + 1 + name.len();
-    out[at + 1..end].copy_from_slice(name);
     out[end] = q;
     end + 1
 }
