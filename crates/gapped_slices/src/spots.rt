@@ -43,12 +43,12 @@ fn by_halves<F: Fn(usize) -> Ordering>(from: usize, to: usize, rank: &F) -> Resu
     Err(lo)
 }
 
-// Among those before the gap, from the last one back, and by halves among those that this leaves.
+// Among those before the last one before the gap, which was looked at, from there back, and by halves among those that this leaves.
 fn back_from<F: Fn(usize) -> Ordering>(front: usize, rank: &F) -> Result<usize, usize>
     requires called { (i : ℕ) → i < front → F.pre rank.now i }
     ensures { OfRanks (F.post rank.now) front (λ by. Sought by front result) }
 {
-    let stop = front - STEPS.min(front);
+    let stop = front - (STEPS - 1).min(front);
     for i in (stop..front).rev() {
         match rank(i) {
             Ordering::Less => return Err(i + 1),
