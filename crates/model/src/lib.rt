@@ -15,6 +15,6 @@ pub use keys::{chain_part, code_part, residue_key, sequence_part};
 pub use lent::{AtomsMut, ResiduesMut, room_in};
 pub use neighbours::{is_alone, met_with, pass_lesser, position_between};
 pub use records::Records;
-pub use room::{Room, no_records};
+pub use room::{Room, no_records, room_by};
 pub use taken_out::{Atom, Residue};
 pub use termini::is_polymer;

@@ -32,8 +32,8 @@ fn smallest(a: usize, b: usize, c: usize, d: usize, e: usize) -> usize
     a.min(b.min(c.min(d.min(e))))
 }
 
-// By the lengths of the slices: each is lent by itself, so no struct has them.
-pub(crate) fn room_by(
+// By the lengths of the slices, for a caller that does not lend them for it: each is lent by itself, so no struct has them.
+pub fn room_by(
     chains: usize,
     residue_keys: usize,
     residue_names: usize,
