@@ -52,6 +52,8 @@ pub fn serve(
     ensures same_atoms { SameAtoms atoms.old atoms.new }
     ensures serves { Serves settings (lent_now chains.old residues.old atoms.old) text.now out.old result (lent_now chains.new residues.new atoms.new) out.new }
 {
-    let counts = read_by_names(text, chains, residues, atoms, settings)?;
-    write_out(out, chains, residues, atoms, counts)
+    match read_by_names(text, chains, residues, atoms, settings) {
+        Ok(counts) => write_out(out, chains, residues, atoms, counts),
+        Err(why) => Err(why),
+    }
 }
