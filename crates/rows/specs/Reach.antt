@@ -47,7 +47,7 @@ reach_by None short = cond short (Err Short) (Ok tt)
 unfoldable pub reach_of : Columns → ℕ → Reach
 reach_of columns n = reach_by (missing_column columns) (is_short columns n)
 
--- ---- the furthest column, by which a row of n tokens is told to be short at once
+-- ---- the furthest column: where none is missing, a row is short exactly where it does not reach that one (`furthest_decides`)
 
 abbrev pub farther : ℕ → ℕ → ℕ
 farther far column = cond (is_absent column) far (cond (ltb far column) column far)
